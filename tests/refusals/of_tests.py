@@ -7,7 +7,7 @@ import tempfile
 
 from stage import ROOT
 
-# The tests, and behind how many reports memory must have been refused at least once.
+# The tests, and after how many reports memory must have been refused at least once.
 TESTS = [
     ("ptb_language_tests", "texts::refused_growths_are_answered", set()),
     ("ptb_language_tests", "texts::refused_lines_are_entered_again", set()),
@@ -45,7 +45,7 @@ def swept(strike, crate, test, wanted):
     with tempfile.TemporaryDirectory(prefix="ptb-refusals-") as folder:
         for number in range(1, MOST_CALLS):
             done, was_struck = run(program, test, strike, os.path.join(folder, "struck"), number)
-            seen |= set(re.findall(r"refused behind (\d+)", done.stdout))
+            seen |= set(re.findall(r"refused after (\d+)", done.stdout))
             if done.returncode == 0 and "test result: ok" in done.stdout:
                 passed += 1
             else:
@@ -55,7 +55,7 @@ def swept(strike, crate, test, wanted):
     if was_struck or number == 1:
         faults.append(f"allocations refused: {number}, which is none, or there are more")
     if not wanted <= seen:
-        faults.append(f"memory was refused behind {sorted(seen)} reports, and not behind {sorted(wanted)}")
+        faults.append(f"memory was refused after {sorted(seen)} reports, and not after {sorted(wanted)}")
     return number - 1, passed, faults
 
 

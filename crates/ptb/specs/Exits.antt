@@ -79,14 +79,14 @@ pub record IsRefusedStatus (kind : ErrorKind) (n : ℕ) : Type 0 where
 -- ---- what the program does by its arguments
 
 module _ {R : Type 0} (input : Reads R) (out : Writes) where
-  -- the options ask for nothing
+  -- the options are a usage error
   pub record IsUsageStatus (options : Options) (n : ℕ) : Type 0 where
     pub fault : UsageFault
     pub refuses : RefusesOptions options fault
     pub status : n ≡ usage_status fault
     pub untouched : IsUntouched input out
 
-  -- clap refused the arguments, for one of these faults or for want of memory
+  -- clap refused the arguments, for one of these faults or for lack of memory
   pub record IsFaultStatus (faults : Kinds) (n : ℕ) : Type 0 where
     pub kind : ErrorKind
     pub has : (kind ≡ OutOfMemory) ⊎ IsAmong kind faults

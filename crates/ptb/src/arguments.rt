@@ -1,5 +1,5 @@
-// This file has what the arguments of the command line ask for, and what is answered where they ask
-// for nothing.
+// This file has what the arguments of the command line ask for, and what is answered to a usage
+// error.
 
 ghost use Rattle.std.specs.Prelude.{◌≡◌, ◌≤◌, IfErr, IfOk, IfSome, codes, map};
 ghost use Rattle.std.specs.Prelude.{is_ok, is_some, option_copied, string_bytes};

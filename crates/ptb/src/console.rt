@@ -127,8 +127,8 @@ impl<'a, R: Runtime> Console<'a, R> {
         self.events.typed.set(Typed::Nothing);
     }
 
-    /// Prints a line to standard error, in place of one that shows progress. If that fails, the status
-    /// is all that is left.
+    /// Prints a line to standard error, instead of one that shows progress. If that fails, the
+    /// status is all that is left.
     pub fn say<D: Display + Drop>(&self, line: D) {
         self.progress_line().clear();
         let _ = self.rt.eprintln(line);

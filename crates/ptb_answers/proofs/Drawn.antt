@@ -97,12 +97,12 @@ answers_by-drawn most g f reads = by_first most g f reads (open_is (f []) reads.
       let k = drawn_answer (pcg32 g).0 q.0 in
       let others = reader_after f most q.0 k q.1 reads q.2
       (drawn_inside (pcg32 g).0 q.0 (reads.positive [] q.0 q.1 q.2)) in
-      let behind = by_first most (pcg32 g).1 (λ a. f (k ∷ a)) others (open_is (f (k ∷ [])) others.begins) in
+      let following = by_first most (pcg32 g).1 (λ a. f (k ∷ a)) others (open_is (f (k ∷ [])) others.begins) in
       let a = answers_by most (pcg32 g).1 (λ a. f (k ∷ a)) in
       subst (IsDrawnFrom g f) (sym (answers_by-asks most g f q.0 q.1 q.2))
       (record {
-        run = behind.run;
-        drawn = ap (λ l. k ∷ l) behind.drawn
+        run = following.run;
+        drawn = ap (λ l. k ∷ l) following.drawn
             ∙ ap (drawn_from g) (sym (bounds_later f q.0 k q.1 a q.2));
       })
 
@@ -119,7 +119,7 @@ drawn_alone (suc most) g f (k ∷ b) reads h =
     h.drawn ∙ ap (drawn_from g) (bounds_later f q.0 k q.1 b q.2) in
     let first : k ≡ drawn_answer (pcg32 g).0 q.0 = cc in
     let rest : b ≡ drawn_from (pcg32 g).1 (bounds (λ a. f (k ∷ a)) b) = cc in
-    let behind = drawn_alone most (pcg32 g).1 (λ a. f (k ∷ a)) b (reader_after f most q.0 k q.1 reads q.2 q.3)
+    let following = drawn_alone most (pcg32 g).1 (λ a. f (k ∷ a)) b (reader_after f most q.0 k q.1 reads q.2 q.3)
     (record { run = h.run; drawn = rest }) in
-    ap (λ l. k ∷ l) behind ∙ ap (λ x. x ∷ answers_by most (pcg32 g).1 (λ a. f (x ∷ a))) first
+    ap (λ l. k ∷ l) following ∙ ap (λ x. x ∷ answers_by most (pcg32 g).1 (λ a. f (x ∷ a))) first
     ∙ sym (answers_by-asks most g f q.0 q.1 q.2)

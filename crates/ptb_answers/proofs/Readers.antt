@@ -293,7 +293,7 @@ module _ {A B E W : Type 0} (f : A → Answers → Outcome (Result B E) W) where
 
 -- ---- other results
 
--- h gives a result and what stands beside a question another form, each by a function, and leaves answers and bounds
+-- h gives a result and what accompanies a question another form, each by a function, and leaves answers and bounds
 module _ {A B V W : Type 0} (h : Outcome A V → Outcome B W) (f : A → B) (g : V
     → W) (h-done : (x : A) (rest : Answers) → h (Done x rest) ≡ Done (f x) rest) (h-asks : (n : ℤ) (v : V)
     → h (Asks n v) ≡ Asks n (g v)) (h-out : (n : ℤ) (v : V) → h (Out n v) ≡ Out n (g v)) where

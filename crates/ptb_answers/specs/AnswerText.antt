@@ -16,7 +16,7 @@ use Rattle.ptb_answers.specs.declared.form.Marked.{Marked}
 
 -- ---- text
 
--- a bound stands behind `/`
+-- a bound follows `/`
 abbrev pub bound_text : Option ℤ → List ℕ
 bound_text None = []
 bound_text (Some n) = codes "/" ++ signed_decimal n
@@ -24,7 +24,7 @@ bound_text (Some n) = codes "/" ++ signed_decimal n
 abbrev pub item_text : Marked → List ℕ
 item_text m = signed_decimal m.answer ++ bound_text m.bound
 
--- items behind the first, each with a comma in front
+-- items after the first, each with a comma in front
 abbrev pub more_spelling : List Marked → List ℕ
 more_spelling list = flat_map (λ m. codes "," ++ item_text m) list
 

@@ -43,7 +43,7 @@ abbrev pub choices_of : AnswerList → Choices
 choices_of l = record { plan = l.answers; taken = take l.given l.answers; kept = None }
 
 -- why a list of answers, of which some were given, refuses one: it is used up, or its next answer isn't one; never
--- for want of memory
+-- for lack of memory
 abbrev pub RefusedByList : List ℤ → ℕ → Pause → ℤ → Type 0
 RefusedByList answers given Ended n = given ≡ length answers
 RefusedByList answers given (OutOfRange g) n = (slice_get answers given ≡ Some g) × (is_answer n g ≡ false)

@@ -1,10 +1,10 @@
--- This file defines what working something out comes to where answers are taken from a list, one by one.
+-- This file defines the result of working something out where answers are taken from a list, one by one.
 --     Outcome A W              a result and the answers left, a question without an answer, or an answer outside its
 --                              bound
---     go_on o next             goes on with a result; a question or an outside answer stays what it is
---     map_outcome f g o        the same with another result, and with another thing beside a question
+--     go_on o next             continues with a result; a question or an outside answer stays what it is
+--     map_outcome f g o        the same with another result, and with another thing that accompanies a question
 --     answer n w               takes an answer from 1 to n
---     m >>= next               goes on with a value; a fault stays what it is
+--     m >>= next               continues with a value; a fault stays what it is
 --     IsReader f most          the laws of what takes answers one by one, at most so many
 use Rattle.std.specs.Prelude.{◌≡◌, ℕ, ◌+◌, ◌<◌, ◌≤◌, Bool, true, false, ◌&&◌, List, [], ◌∷◌, ◌++◌}
 use Rattle.std.specs.Prelude.{length, ℤ, pos, ◌≤ℤ◌, int_le, Result, Ok, Err, if◌then◌else◌}
@@ -12,7 +12,7 @@ use Rattle.std.specs.Prelude.{length, ℤ, pos, ◌≤ℤ◌, int_le, Result, Ok
 abbrev pub Answers : Type 0
 Answers = List ℤ
 
--- A is what the result is; W is what stands beside a question, as the state in which it is asked
+-- A is what the result is; W is what accompanies a question, as the state in which it is asked
 pub data Outcome (A W : Type 0) : Type 0 where
   -- a result, and the answers that are left
   Done : (x : A) (rest : Answers) → Outcome A W
@@ -57,12 +57,12 @@ failure e a = Done (Err e) a
 abbrev pub is_answer : ℤ → ℤ → Bool
 is_answer n k = int_le (pos 1) k && int_le k n
 
--- the first answer, if it is one; w stands beside the question
+-- the first answer, if it is one; w accompanies the question
 unfoldable pub answer : {W : Type 0} → ℤ → W → Answers → Outcome ℤ W
 answer n w [] = Asks n w
 answer n w (k ∷ rest) = if is_answer n k then Done k rest else Out n w
 
--- ---- what answers come to
+-- ---- results of answers
 
 -- there is a result, and every answer was taken
 abbrev pub is_whole : {A W : Type 0} → Outcome A W → Bool

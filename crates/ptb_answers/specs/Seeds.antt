@@ -61,7 +61,7 @@ seeded_choices s = record {
   kept = Some s.bounds;
 }
 
--- it refuses an answer for want of memory alone
+-- it refuses an answer for lack of memory alone
 abbrev pub RefusedForMemory : Pause → ℤ → Type 0
 RefusedForMemory Ended n = ⊥
 RefusedForMemory (OutOfRange g) n = ⊥

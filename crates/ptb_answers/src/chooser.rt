@@ -14,7 +14,7 @@ pub trait Chooser {
     /// What it is to answer, what it has answered, and the bounds of these where it keeps bounds.
     ghost choices: { Self → Choices };
 
-    /// What stands after a pause at a question with this bound.
+    /// What holds after a pause at a question with this bound.
     ghost refused: { Self → Pause → ℤ → Type 0 };
 
     /// Answers a question with a number from 1 to `bound`, which is at least 1.

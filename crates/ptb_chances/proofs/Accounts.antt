@@ -14,7 +14,7 @@ use Rattle.ptb_chances.proofs.Sums.{plus_assoc, plus_turn, equals_plus, equals_t
 
 -- ---- one row more
 
--- where a row stands in front of others, or is left out
+-- where a row is before others, or is left out
 abbrev pub maybe : Bool → Row → List Row → List Row
 maybe b w ws = cond b (w ∷ ws) ws
 

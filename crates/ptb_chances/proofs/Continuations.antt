@@ -1,4 +1,4 @@
--- This file proves what comes of a play that goes on where another has come to.
+-- This file proves the results of a play that continues from the place of another one.
 -- Main lemmas: `gone_on` and `gone_over`.
 use Rattle.std.proofs.Common.{◌≡◌, ℕ, zero, suc, List, [], ◌++◌, take, length, refl, sym, ap, subst}
 use Rattle.std.proofs.Common.{◌∙◌, true, append-nil}
@@ -99,7 +99,7 @@ module _ (laws : RunLaws) (p q : StoredProgram) (rules r : Rules) (program : q �
       subst (λ (z : Answers). is_open (run_from q r gone.state z) ≡ true) (sym none)
       (opens_later q r S [] new now text gone there)
 
-  -- it is noted where the run stands
+  -- it is noted where the run is
   pub gone_waits : (k : Configuration) (rest : List (List ℕ)) (end : List ℕ) → k ≡ new → now ≡ rest → SameEnd text end
       → Came p rules S [] k rest end
   gone_waits k rest end same rest_is ended =

@@ -1,4 +1,4 @@
--- This file proves that the order of results tells them apart, and what the list of different results has.
+-- This file proves that the order of results distinguishes them, and what the list of different results has.
 -- Main lemmas: `has_results` and `results_rise`.
 use Rattle.std.proofs.Common.{◌≡◌, ℕ, Bool, true, false, ◌||◌, List, [], ◌∷◌, get_or, refl, ap, sym, ◌∙◌}
 use Rattle.std.specs.Cmp.Lexicographic.{slice_cmp}

@@ -1,4 +1,4 @@
--- This file proves what becomes of plays that stand at one place: they are over, they go on, or they ask.
+-- This file proves what becomes of plays at one place: they are over, they continue, or they ask.
 -- Main lemmas: `settled_over`, `settled_gone` and `settled_asked`.
 use Rattle.std.proofs.Common.{◌≡◌, ℕ, zero, suc, ◌+◌, ◌*◌, ◌<◌, ◌≤◌, Bool, true, false, cond, List}
 use Rattle.std.proofs.Common.{[], ◌∷◌, ◌++◌, map, length, take, drop, refl, ap, sym, subst, ◌∙◌}
@@ -151,7 +151,7 @@ module _ (p : StoredProgram) (input : List (List ℕ)) (rules : Rules) (most : �
           covers = subst (λ (zs : List Answers). Covers p input rules most (zs ++ done) ws) (nothing_below qs ends) c;
         }
 
-  -- ---- they go on
+  -- ---- they continue
 
   module _ (m : Configuration) (taken : ℕ) (shown : List ℕ) where
     abbrev pub gone : Standing

@@ -1,4 +1,4 @@
--- This file proves laws of the rows of a tally: their order, and how their text goes on.
+-- This file proves laws of the rows of a tally: their order, and how their text continues.
 -- Main lemma: `rows_rise`.
 use Rattle.std.proofs.Common.{◌≡◌, List, [], ◌∷◌, map}
 use Rattle.std.specs.List.{AllByRecursion}

@@ -27,7 +27,7 @@ takes_last f xs ys x rest is = record {
   new_is = refl;
 }
 
--- behind others
+-- after others
 pub takes_after : (us old new : List Standing) (w : Standing) → Takes old w new → Takes (us ++ old) w (us ++ new)
 takes_after us old new w t = record {
   front = us ++ t.front;

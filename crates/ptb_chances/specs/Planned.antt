@@ -18,7 +18,7 @@ pub record PlanAnswers : Type 0 where
 abbrev pub choices_of : PlanAnswers → Choices
 choices_of l = record { plan = l.answers; taken = take l.given l.answers; kept = None }
 
--- the plan is used up, or its next answer is out of range; never for want of memory
+-- the plan is used up, or its next answer is out of range; never for lack of memory
 abbrev pub RefusedByPlan : PlanAnswers → Pause → ℤ → Type 0
 RefusedByPlan l Ended n = (l.given ≡ length l.answers) × (l.refused_bound ≡ n)
 RefusedByPlan l (OutOfRange g) n = (slice_get l.answers l.given ≡ Some g) × (is_answer n g ≡ false)

@@ -1,8 +1,8 @@
--- This file defines where a play stands, and what comes of it with some answers more.
+-- This file defines where a play is, and what comes of it with some answers more.
 --     SameEnd s t                      whatever is shown next, the last line is the same after s and after t
 --     StandsAt p rules m left shown S      a machine stands for the state S; these lines are left, and this was shown
 --                                          last
---     Came p rules S a m left shown    with the answers a, a run has come from the state S to where a machine stands
+--     Came p rules S a m left shown    with the answers a, a run has come from the state S to where a machine is
 --     IsOver p rules S a ending shown  with these answers it is over
 --     IsAsked p rules S a n            with these answers it asks a question with bound n
 --     played_of ending n               how a play has ended

@@ -1,5 +1,5 @@
 -- This file defines the plays that wait to be continued.
---     Standing                       where plays stand, the answers that each of them takes next, their chance and
+--     Standing                       where plays are, the answers that each of them takes next, their chance and
 --                                    their number
 --     planned, unplanned             what the code holds of it
 --     standings w                    all that is left to be played
@@ -83,7 +83,7 @@ first_standing m = record {
   runs = 1;
 }
 
--- where a machine stands, after the last answer of a plan
+-- where a machine is, after the last answer of a plan
 abbrev pub gone_to : Configuration → ℕ → List ℕ → Ratio → ℕ → Standing
 gone_to m taken shown chance runs = record {
   machine = m;

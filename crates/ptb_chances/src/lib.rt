@@ -1,6 +1,6 @@
 //! The exact chance of each result of a program's runs.
 //!
-//! It stands on `ptb_explore` for the runs and for the definitions of results, chances and their
+//! It depends on `ptb_explore` for the runs and for the definitions of results, chances and their
 //! table, on `ptb_numbers` for numbers of any size, on `ptb_machine`, `ptb_command`, `ptb_answers` and
 //! on `ptb_text`. The crate above may rely on `chances_text` and `write_chances` (the text of the
 //! table) and on `table_laws`. What watches how far a table is counted implements `Watch`.

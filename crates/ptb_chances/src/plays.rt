@@ -1,4 +1,4 @@
-// This file plays a run on from where it stands, with the answers of a plan.
+// This file plays a run on from where it is, with the answers of a plan.
 
 ghost use Rattle.std.specs.Prelude.{◌≡◌, ◌-◌, ◌<◌, ◌≤◌, false, true, drop, length, take, IfOk};
 ghost use Rattle.ptb_answers.specs.Outcome.{is_open};
@@ -41,7 +41,7 @@ pub(crate) struct Console<'l> {
     pub(crate) source: Lines<'l>,
 }
 
-/// Plays a run of the player's program on from where it stands, with the answers of a plan: up to its
+/// Plays a run of the player's program on from where it is, with the answers of a plan: up to its
 /// end, to a question after them, or through the command that takes the last of them. Where the plan has
 /// no answers, this is one command.
 ///

@@ -21,10 +21,10 @@ use std::alloc::{AllocError, Global};
 pub(crate) struct Stage<'p, 'l> {
     pub(crate) player: Player<'p>,
     pub(crate) rules: Rules,
-    /// It plays each plan, from where the machine of its place stood.
+    /// It plays each plan, from where the machine of its place was.
     pub(crate) trial: Machine,
     pub(crate) console: Console<'l>,
-    /// Where the run stood before the command that asks next.
+    /// Where the run was before the command that asks next.
     pub(crate) before: Place,
 }
 
@@ -68,7 +68,7 @@ impl<'p, 'l> Stage<'p, 'l> {
         Ok(played)
     }
 
-    // Does the commands that are next and ask nothing, and notes where the run stands then.
+    // Does the commands that are next and ask nothing, and notes where the run is then.
     fn advance(&mut self, alloc: Global) -> Result<(), AllocError>
         requires fits { FitsProgram self.old.player self.old.trial }
         ensures player { self.new.player ≡ self.old.player }
@@ -88,7 +88,7 @@ impl<'p, 'l> Stage<'p, 'l> {
         Ok(())
     }
 
-    // Plays on from where the trial stands: up to the end, which is given, or to before the command
+    // Plays on from where the trial is: up to the end, which is given, or to before the command
     // that asks next.
     fn go_on(&mut self, alloc: Global) -> Result<Option<Ending>, AllocError>
         requires unspent { self.old.trial.spent ≡ false }

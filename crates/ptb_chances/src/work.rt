@@ -1,4 +1,4 @@
-// This file has what is left to be played of all runs: where plays stand, with the chance and the
+// This file has what is left to be played of all runs: where plays are, with the chance and the
 // number of the plays that have come there.
 
 ghost use Rattle.std.specs.Prelude.{◌≡◌, ℕ, ◌<ℤ◌, ◌≤ℤ◌, pos, false, List, [], ◌∷◌, ◌++◌, map};
@@ -16,7 +16,7 @@ use ptb_numbers::{Fraction, Natural};
 use std::alloc::{AllocError, Global};
 use std::collections::BTreeMap;
 
-/// Where plays stand: a machine, how many lines were taken, and the end of what was shown.
+/// Where plays are: a machine, how many lines were taken, and the end of what was shown.
 #[derive(Drop)]
 pub(crate) struct Place {
     pub(crate) machine: SavedMachine,
@@ -32,7 +32,7 @@ pub(crate) struct Plan {
     pub(crate) runs: Natural,
 }
 
-/// Plays that stand at one place, with their chance and their number.
+/// Plays at one place, with their chance and their number.
 #[derive(Drop)]
 pub(crate) struct Waiting {
     pub(crate) place: Place,
@@ -43,7 +43,7 @@ pub(crate) struct Waiting {
 /// What is left to be played.
 #[derive(Drop)]
 pub(crate) struct Work {
-    /// Where the plays of the plans stand.
+    /// Where the plays of the plans are.
     pub(crate) place: Place,
     pub(crate) plans: Vec<Plan>,
     /// Plays that have no plan, by the keys of their places.
@@ -53,7 +53,7 @@ pub(crate) struct Work {
 }
 
 impl Place {
-    /// A place where nobody stands.
+    /// A place where no play is.
     pub(crate) fn new(alloc: Global) -> Place {
         Place {
             machine: SavedMachine::new(alloc),
@@ -113,7 +113,7 @@ impl Place {
 }
 
 impl Waiting {
-    // Takes in other plays, which stand at the same place.
+    // Takes in other plays, which are at the same place.
     fn join(&mut self, alloc: Global, other: &Waiting) -> Result<(), AllocError>
         ensures place { OnOk result (self.new.place ≡ self.old.place) }
         ensures chance { OnOk result (Equals self.new.chance
@@ -139,7 +139,7 @@ impl Plan {
         })
     }
 
-    /// The same plays, which stand at a place after their last answer.
+    /// The same plays, which are at a place after their last answer.
     pub(crate) fn at(self, place: Place) -> Waiting
         ensures { unplanned result ≡ gone_to place.machine place.taken place.shown.items
             self.chance self.runs }
@@ -192,7 +192,7 @@ impl Work {
         })
     }
 
-    /// Takes out plays that have the fewest commands done, of those that stand at one place, and goes
+    /// Takes out plays that have the fewest commands done, of those at one place, and goes
     /// to this place.
     pub(crate) fn next(&mut self, alloc: Global) -> Option<Plan>
         ensures none { IfNone result (standings self.old ≡ []) }
@@ -275,8 +275,7 @@ impl Work {
         self.states.len().saturating_add(self.others.len())
     }
 
-    /// Puts in plays that stand at one place: together with those that stand at the same place, where
-    /// these are found.
+    /// Puts in plays at one place: together with those at the same place, where these are found.
     ///
     /// # Errors
     ///

@@ -1,4 +1,4 @@
--- This file proves that the code of a command tells its mistake.
+-- This file proves that the code of a command determines its mistake.
 -- Main lemma: `code_is_mistake`.
 use Rattle.std.proofs.Common.{◌≡◌, ◌∙◌, ℕ, ◌⊎◌, List, [], ◌∷◌, Option, Some, None, IsSome, sym, ap}
 use Rattle.std.proofs.Common.{subst, refl, inl, inr}

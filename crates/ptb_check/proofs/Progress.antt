@@ -31,7 +31,7 @@ or_swap true b = sym (or_true b)
 or_swap false true = refl
 or_swap false false = refl
 
--- of all mistakes these are left, and `any` tells whether one was written
+-- of all mistakes these are left, and `any` says whether one was written
 pub record IsWrittenUpTo (old now : Option (List ℕ)) (any : Bool) (all rest : List Mistake) : Type 0 where
   pub done : List Mistake
   pub split : all ≡ done ++ rest

@@ -42,7 +42,7 @@ among_second : {X : Type 0} (xs ys : List X) (x : X) → IsAmong ys x → IsAmon
 among_second [] ys x h = h
 among_second (y ∷ xs) ys x h = among_later y (xs ++ ys) x (among_second xs ys x h)
 
--- what stands in the list of one of several stands in the list of all
+-- what is in the list of one of several is in the list of all
 among_each : {X Y : Type 0} (f : X → List Y) (before after : List X) (x : X) (y : Y) → IsAmong (f x) y
     → IsAmong (flat_map f (before ++ x ∷ after)) y
 among_each f [] after x y h = among_first (f x) (flat_map f after) y h

@@ -101,7 +101,7 @@ pub fn mistake_of(program: &Program, code: &CommandCode) -> Option<Fault>
     code_mistake(program, code.steps(), code.operations())
 }
 
-// The mistake that the operations of a command tell.
+// The mistake of a command, by its operations.
 fn code_mistake(program: &Program, steps: &[Step], operations: &[Operation]) -> Option<Fault>
     ensures { result ≡ code_mistake program.now.lines steps.now operations.now }
 {

@@ -38,7 +38,7 @@ work_action_adds f = then_adds (attempt f) or_halt (attempt_adds f) or_halt_adds
 
 -- ---- one after the other
 
--- what an action comes to is what comes next
+-- the result of an action is what comes next
 pub refines_part_on : {A B : Type 0} {o n : Trace} {f : Action A} {x : A} (next : A → Action B)
     → RefinesPart o n f (goes_on x) → RefinesPart o n (and_then f next) (next x)
 refines_part_on next m = refines_part_under next m

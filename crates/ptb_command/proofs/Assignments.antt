@@ -1,4 +1,4 @@
--- This file proves what the assignments of LET are, by what stands there, and what they come to.
+-- This file proves what the assignments of LET are, by what is there, and their results.
 -- Main lemma: `assign_refines_part`.
 use Rattle.std.proofs.Common.{◌≡◌, ℕ, Bool, List, [], ◌∷◌, Option, Some, None, ℤ, refl, sym, ap, subst, ◌∙◌}
 use Rattle.ptb_words.specs.Words.{token_at}
@@ -45,7 +45,7 @@ module _ (t : List ℕ) (i : ℕ) where
   unfolding assignment variable_and
   assigns_something = assign_is t i (variable_tree t i)
 
--- ---- what it comes to
+-- ---- the result
 
 -- a value is stored
 pub store_refines_part : (d : Devices) (fresh : Bool) (due : List ℕ) (c e : Cells) (at : Target) (v : ℤ)

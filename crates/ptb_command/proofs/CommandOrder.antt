@@ -64,9 +64,9 @@ module _ (t : List ℕ) where
   ends_on i (Whole x j) a = on_ahead i j a
   ends_on i (Malformed x) a = tt
 
-  behind : {A : Type 0} (i j : ℕ) (r : Reading A) → LiesAhead t i j → EndsAhead j r → EndsAhead i r
-  behind i j (Whole x k) a b = further i j k a b
-  behind i j (Malformed x) a b = tt
+  following : {A : Type 0} (i j : ℕ) (r : Reading A) → LiesAhead t i j → EndsAhead j r → EndsAhead i r
+  following i j (Whole x k) a b = further i j k a b
+  following i j (Malformed x) a b = tt
 
   on_after : {A : Type 0} (i j : ℕ) (r : Reading A) → LiesOn t i j → EndsOn j r → EndsOn i r
   on_after i j (Whole x k) a b = on_on i j k a b
@@ -92,7 +92,7 @@ module _ (t : List ℕ) where
 
   -- ---- rounds
 
-  -- a round ends no earlier than it began, and goes on ahead
+  -- a round ends no earlier than it began, and continues ahead
   abbrev pub RoundOn : {X : Type 0} → ℕ → Round X → Type 0
   RoundOn i (Last r) = EndsOn i r
   RoundOn i (Onward x j) = LiesAhead t i j
@@ -133,10 +133,10 @@ module _ (finding : FindingLaws) (spelling : SpellingLaws) (t : List ℕ) where
       by_reading (Malformed x) e = tt
 
   expression_after : (i j : ℕ) → LiesAhead t i j → EndsAhead t i (expression t j)
-  expression_after i j a = behind t i j (expression t j) a (expression_ends j)
+  expression_after i j a = following t i j (expression t j) a (expression_ends j)
 
   variable_later : (i j : ℕ) → LiesAhead t i j → EndsAhead t i (variable_tree t j)
-  variable_later i j a = behind t i j (variable_tree t j) a (variable_ends j)
+  variable_later i j a = following t i j (variable_tree t j) a (variable_ends j)
 
   -- ---- ends
 
@@ -333,7 +333,7 @@ module _ (finding : FindingLaws) (spelling : SpellingLaws) (t : List ℕ) where
 
   -- ---- commands
 
-  -- a command with a word takes a byte, and so does what stands between two commands
+  -- a command with a word takes a byte, and so does what is between two commands
   next_ahead : (w : Word) (i e j : ℕ) → LiesAhead t i e → next_begin w t e ≡ Some j → LiesAhead t i j
   next_ahead RemKw i e j a h = absurd cc
   next_ahead GotoKw i e j a h = absurd cc

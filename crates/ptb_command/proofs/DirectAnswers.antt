@@ -1,4 +1,4 @@
--- This file proves what asking for a line comes to where nothing can go wrong, and what the line does then.
+-- This file proves the result of asking for a line where nothing can go wrong, and what the line does then.
 -- Main lemmas: `letter_asked` and `line_stored_directly`.
 use Rattle.std.proofs.Common.{◌≡◌, ◌∙◌, ◌⊎◌, ℕ, ℤ, Bool, List, [], ◌∷◌, ◌++◌, Ok, ap, append-nil}
 use Rattle.std.proofs.Common.{append_assoc, inl, inr, refl, sym}

@@ -1,4 +1,4 @@
--- This file proves what a command comes to by its word.
+-- This file proves the result of a command by its word.
 -- Main lemma: `acts_alone`.
 use Rattle.std.proofs.Common.{◌≡◌, ℕ, List, [], ◌++◌, Option, Result, Ok, Err, ℤ, sym, subst, append-nil}
 use Rattle.ptb_words.specs.declared.word.Word.{Word}

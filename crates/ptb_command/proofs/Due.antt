@@ -8,10 +8,10 @@ use Rattle.ptb_command.specs.declared.stop.Stop.TheVariants as stops
 use Rattle.ptb_command.specs.State.{State}
 use Rattle.ptb_command.specs.Actions.{Action}
 use Rattle.ptb_command.specs.Devices.{Refusal}
-use Rattle.ptb_command.specs.Traces.{Trace, with_due, still_due, behind, once_shown, RefinesPart}
+use Rattle.ptb_command.specs.Traces.{Trace, with_due, still_due, following, once_shown, RefinesPart}
 use Rattle.ptb_command.specs.Stops.{Stops, RefinesPartTo, Comes, still_shows}
 
-pub after_is : (shown due : List ℕ) → behind shown due ≡ shown ++ due
+pub after_is : (shown due : List ℕ) → following shown due ≡ shown ++ due
 after_is shown [] = sym (append-nil shown)
 after_is shown (b ∷ due) = refl
 

@@ -52,7 +52,7 @@ takes_joined ls ms ns a b = (a.0 ++ b.0, a.1 ∙ ap (λ l. a.0 ++ l) b.1 ∙ sym
 
 -- ---- one action after the other
 
--- a relation between the state in which an action begins and the one in which it stands then
+-- a relation between the state in which an action begins and the one in which it is then
 pub record Preserves {A : Type 0} (R : State → State → Type 0) (m : Action A) : Type 0 where
   pub at : (S : State) (a : Answers) → R S (action_state (m S a))
 

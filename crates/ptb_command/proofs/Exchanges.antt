@@ -84,7 +84,7 @@ pub no_lines : (xs ys : List (List ℕ)) → length xs ≡ 0 → ys ≡ [] → x
 no_lines [] ys e k = k
 no_lines (x ∷ xs) ys e k = absurd (omega (arith, e))
 
--- what may follow an exchange may, behind the lines that it gives, follow what came before it
+-- what may follow an exchange may also follow what came before it, after the lines that the exchange gives
 pub follows_before : {d e : Devices} {y : Exchange} → Exchanges d e y → (rest : List (List ℕ)) → MayFollow e rest
     → MayFollow d (y.given ++ rest)
 follows_before {y = y} q rest f = λ none. no_lines y.given rest (omega (arith, q.falls, none))

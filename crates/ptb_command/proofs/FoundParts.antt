@@ -1,4 +1,4 @@
--- This file proves what stands at a place of a statement, by what is found there.
+-- This file proves what is at a place of a statement, by what is found there.
 -- Main lemma: `command_word`.
 use Rattle.std.proofs.Common.{◌≡◌, ℕ, List, [], ◌∷◌, Some, None, ap, ◌∙◌, ◌≤◌, length, arith, unwrap_or}
 use Rattle.ptb_words.specs.declared.word.Table.TheVariants.{Commands}

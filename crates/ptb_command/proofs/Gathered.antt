@@ -1,4 +1,4 @@
--- This file proves what gathering bytes comes to, and what showing them together does.
+-- This file proves the results of gathering bytes and of showing them together.
 -- Main lemma: `finished`.
 use Rattle.std.proofs.Common.{◌≡◌, Bool, true, false, List, [], ◌++◌, ℕ, Result, Ok, Err, sym, ap}
 use Rattle.std.proofs.Common.{subst, ◌∙◌, append_assoc}
@@ -9,7 +9,8 @@ use Rattle.ptb_command.specs.declared.stop.Stop.TheVariants as stops
 use Rattle.ptb_command.specs.State.{State}
 use Rattle.ptb_command.specs.Actions.{Faults, Ends, Action, goes_on, halt, show}
 use Rattle.ptb_command.specs.Devices.{Devices, Refusal, no_exchange, nothing_refused}
-use Rattle.ptb_command.specs.Traces.{Trace, trace, with_due, still_due, behind, once_shown, after, Leaves, RefinesPart}
+use Rattle.ptb_command.specs.Traces.{Trace, trace, with_due, still_due, following, once_shown, after, Leaves}
+use Rattle.ptb_command.specs.Traces.{RefinesPart}
 use Rattle.ptb_command.specs.Stops.{Stops, RefinesPartTo, Comes, still_shows}
 use Rattle.ptb_command.proofs.Actions.{show_adds, halt_adds, refines_part_on, stops_first, stops_unrefused}
 use Rattle.ptb_command.proofs.Due.{after_is, due_stays, due_goes}
@@ -24,7 +25,7 @@ idle = goes_on tt
 
 -- ---- more is gathered
 
-after_more : (shown due bytes : List ℕ) → behind shown due ++ bytes ≡ behind shown (due ++ bytes)
+after_more : (shown due bytes : List ℕ) → following shown due ++ bytes ≡ following shown (due ++ bytes)
 after_more shown due bytes = ap (λ s. s ++ bytes) (after_is shown due) ∙ append_assoc shown due bytes
     ∙ sym (after_is shown (due ++ bytes))
 

@@ -1,4 +1,4 @@
--- This file proves what an item of INPUT comes to, step by step.
+-- This file proves the result of an item of INPUT, step by step.
 -- Main lemmas: `line_asked` and `take_dry`.
 use Rattle.std.proofs.Common.{◌≡◌, ◌≤◌, ◌+◌, ℕ, Bool, true, List, [], ◌∷◌, ◌++◌, Option, Some, None}
 use Rattle.std.proofs.Common.{Result, Ok, Err, ℤ, pos, refl, sym, ap, subst, ◌∙◌, append_assoc}
@@ -204,7 +204,7 @@ module _ (n : ℤ) (at : Target) where
       refines_part_then (value_then v u is a)
       (refines_part_then (refines_part_on (λ u. store at v) (both_move (signed_decimal v) newline b c)) d)
 
--- what the chooser comes to, as the value
+-- the result of the chooser, as the value
 module _ (refused : Pause → ℤ → Type 0) (n : ℤ) (c e : Choices) (d : Devices) (fresh : Bool) (due : List ℕ)
     (cells : Cells) (high : pos 1 ≤ℤ n) where
   pub chosen_value : (at : Target) (v : ℤ) → WorkComes refused (chosen n) c e (Ok v)
@@ -437,7 +437,7 @@ module _ (said : List ℕ) (x : Tree) (prompt : List ℕ) where
       → RefinesPart o (with_most most m) (item_action said x prompt) (without_line m.devices.choose at)
   take_none {m = m} most at none a = refines_part_then (wanted at a) (no_line m most at none)
 
-  -- the run ends for want of a line
+  -- the run ends for lack of a line
   pub take_dry : (refused : Refusal → Type 0) {o m : Trace} (most : ℕ) (at : Target) → most ≡ 0
       → m.devices.choose ≡ None → RefinesPart o m (ask_for said x prompt) (goes_on at) → refused NoLine
       → Stops refused (RefinesPartTo o (with_most most m) (item_action said x prompt))
@@ -591,7 +591,7 @@ module _ (said : List ℕ) (x : Tree) (prompt : List ℕ) where
       (λ u. item_action_adds) e
       (subst (λ (s : List ℕ). Stops refused (RefinesPartTo m n (show s)) n.devices e) k h))
 
-  -- ways out, once it is shown
+  -- where it stops, once it is shown
   pub line_worth_stops : (refused : Refusal → Type 0) {o m k : Trace} (n : Trace) (at : Target) (l : List ℕ) (e : Stop)
       → RefinesPart o m (show l) (goes_on tt) → RefinesPart m k (show newline) (goes_on tt)
       → Stops refused (RefinesPartTo k n (line_value l)) n.devices e
@@ -656,7 +656,7 @@ module _ (rest : List Part) (w : ℕ) (operands : List ℤ) where
   take_stops refused o n said x prompt e h = stops_first refused o n (item_action said x prompt)
       (λ u. parts_action rest w operands) (λ u. parts_add rest w operands) e h
 
-  -- all that it comes to
+  -- all its results
   pub take_comes : {X : Type 0} (refused : Refusal → Type 0) (o n : Trace) (said : List ℕ) (x : Tree) (prompt : List ℕ)
       (p : Part)
       → p ≡ Take said x prompt → (r : Result X Stop) → Comes refused o n (item_action said x prompt) (λ u. goes_on tt) r

@@ -1,4 +1,4 @@
--- This file proves what the items of PRINT are, by what stands there.
+-- This file proves what the items of PRINT are, by what is there.
 -- Main lemmas: `round_open` and `round_closed`.
 use Rattle.std.proofs.Common.{◌≡◌, ℕ, true, false, List, [], ◌∷◌, Some, None, refl, ap, ◌∙◌}
 use Rattle.ptb_words.specs.Words.{token_at, QuotedText}

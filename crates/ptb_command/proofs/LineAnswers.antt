@@ -1,4 +1,4 @@
--- This file proves what asking for a line comes to, from what is known of each step.
+-- This file proves the result of asking for a line, from what is known of each step.
 -- Main lemmas: `answering_done` and `answering_fails`.
 use Rattle.std.proofs.Common.{◌≡◌, ◌≤◌, ◌+◌, ℕ, Bool, true, false, List, [], ◌∷◌, ◌++◌, Option}
 use Rattle.std.proofs.Common.{Some, None, Result, Ok, Err, ℤ, IfErr, IfOk, IfNone, subst, sym, Bor}
@@ -91,7 +91,7 @@ module _ (said : List ℕ) (x : Tree) (prompt : List ℕ) {i o : Trace}
     -- the source has none
     module _ (line : Result (Option (Bor (List ℕ))) ReadFault) (none : line ≡ Ok None)
         (no_more : IfOk line (λ l. IfNone l (most ≡ 0))) where
-      -- the run ends for want of a line
+      -- the run ends for lack of a line
       pub answering_ends : (answers : Pause → ℤ → Type 0) (unread : ReadFault → Type 0) (lines : Option (List (List ℕ)))
           → m.due ≡ [] → m.devices.choose ≡ None → IfOk line (λ l. IfNone l (NoneLeft lines))
           → Stops (refused_by answers unread lines) (RefinesPartTo i (with_due (still_due m.due stops.NoInput)

@@ -32,7 +32,7 @@ newest_last xs (opens.Loop m ∷ os) last there view =
 newest_last xs (opens.Call back ∷ os) last there view =
     ap (λ (o : Open). newest_loop (o ∷ [])) (head_last xs os (opens.Call back) last there view)
 
--- a loop that is the newest becomes the newest as it stands
+-- a loop that is the newest becomes the newest as it is
 pub newest_stays : (x : ℕ) (os : List Open) (m : OpenLoop) → Some m ≡ newest_loop os → m.letter ≡ x
     → (item : OpenLoop) × ClosesNewer x os os (Some item)
 newest_stays x [] m is same = absurd (none-some m (sym is))

@@ -1,4 +1,4 @@
--- This file proves at which place the run goes on behind a command.
+-- This file proves at which place the run continues after a command.
 -- Main lemma: `follows_there`.
 use Rattle.std.proofs.Common.{◌≡◌, ℕ, ◌+◌, Bool, true, false, List, Some, None, refl, sym, ap, subst, ◌∙◌, inl, inr}
 use Rattle.std.specs.Prelude.{◌||◌, is_some}
@@ -16,7 +16,7 @@ use Rattle.ptb_command.specs.Laws.{CommandLaws}
 use Rattle.ptb_command.specs.Reads.{IsClosed, NextBegins}
 use Rattle.ptb_command.specs.Representation.{PlaceIs, Begun}
 
--- the words of the commands behind which `;` begins the next one
+-- the words of the commands after which `;` begins the next one
 pub record ChecksEnd (word : Word) : Type 0 where
   pub next : (t : List ℕ) (e : ℕ) → next_begin word t e ≡ token_at 59 t e
 
@@ -75,7 +75,7 @@ module _ (laws : CommandLaws) (p : Statements) (q : Place) (k : ℕ) (t : List �
   over_there true b h k = refl
   over_there false b h k = absurd (false≢true (sym k ∙ h))
 
-  -- the place behind a command that checks for its end
+  -- the place after a command that checks for its end
   pub follows_there : (e j : ℕ) → ChecksEnd word → IsClosed t i (parts_of word t i) e → NextBegins t e j
       → PlaceIs p (next_index q) (record { statement = k; at = j })
   follows_there e j checks closed (inl f) = next_there e j closed.whole (checks.next t e ∙ f)

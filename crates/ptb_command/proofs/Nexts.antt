@@ -48,22 +48,22 @@ module _ (laws : CommandLaws) (p : Statements) (q : Place) (s : Location) (a : P
   }
 
   -- nothing is left of its statement
-  behind : is_over t s.at ≡ true → next_command p (Some q) ≡ first_command p (place_after p q.number)
-  behind e = next_by p q ∙ ap (command_or_next p q)
+  following : is_over t s.at ≡ true → next_command p (Some q) ≡ first_command p (place_after p q.number)
+  following e = next_by p q ∙ ap (command_or_next p q)
       (ap (λ (x : List ℕ). slice_get (commands x) q.index) (sym tn)
       ∙ laws.at_none t q.index s.at (subst (λ (x : List ℕ). At x q.index s.at) (sym tn) a.at) e)
 
   pub next_last : is_over t s.at ≡ true → place_after p q.number ≡ None → next_command p (Some q) ≡ None
-  next_last e k = behind e ∙ ap (first_command p) k
+  next_last e k = following e ∙ ap (first_command p) k
 
-  -- nothing stands in the statement behind it
+  -- nothing is in the statement after it
   pub next_empty : (b : Location) (z : ℤ) (u : List ℕ) → is_over t s.at ≡ true
       → PlacesAre p (place_after p q.number) (Some b) → IsLineAt p b.statement z u → is_over u b.at ≡ true
       → next_command p (Some q) ≡ None
   next_empty b z u e a x o =
       let r = is_placed p (place_after p q.number) b a in
       let text = text_there p r.place b z u r.is x in
-      behind e ∙ ap (first_command p) r.there ∙ ap (placed_at r.place)
+      following e ∙ ap (first_command p) r.there ∙ ap (placed_at r.place)
       (ap (λ (y : List ℕ). slice_get (commands y) r.place.index) (sym text) ∙ laws.at_none u r.place.index b.at
       (subst (λ (y : List ℕ). At y r.place.index b.at) (sym text) r.is.at) o)
 
@@ -76,7 +76,7 @@ module _ (laws : CommandLaws) (p : Statements) (q : Place) (s : Location) (a : P
       let text = text_there p r.place b z u r.is x in
       record {
         place = r.place;
-        next = behind e ∙ ap (first_command p) r.there ∙ ap (placed_at r.place)
+        next = following e ∙ ap (first_command p) r.there ∙ ap (placed_at r.place)
             (ap (λ (y : List ℕ). slice_get (commands y) r.place.index) (sym text) ∙ laws.at_there u r.place.index b.at
             (subst (λ (y : List ℕ). At y r.place.index b.at) (sym text) r.is.at) o);
         is = r.is;

@@ -136,7 +136,7 @@ refines_part_then {o = o} {m = m} {n = n} {f = f} {g = g} {h = h} a b = record {
       (fits_after o m a.exchange lines S a.fresh a.exchanges.same_choose fits)));
 }
 
--- in what comes to the same where it asks
+-- under a function that leaves questions as they are
 pub refines_part_into : {A B : Type 0} {o n : Trace} {f g : State → Answers → Outcome A State}
     (into : Outcome A State → Outcome B State)
     → ((k : ℤ) (T : State) → into (Asks k T) ≡ Asks k T) → RefinesPart o n f g

@@ -1,4 +1,4 @@
--- This file proves what a part of a command comes to, whether it is done or stops.
+-- This file proves the result of a part of a command, whether it is done or stops.
 -- Main lemma: `show_comes`.
 use Rattle.std.proofs.Common.{◌≡◌, ℕ, List, ◌∷◌, Result, Ok, Err, ℤ}
 use Rattle.std.specs.Prelude.{IfOk}

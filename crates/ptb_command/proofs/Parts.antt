@@ -1,4 +1,4 @@
--- This file proves what the parts of a command come to, one at a time.
+-- This file proves the results of the parts of a command, one at a time.
 -- Main lemma: `show_refines_part`.
 use Rattle.std.proofs.Common.{◌≡◌, ℕ, Bool, true, List, [], ◌∷◌, ◌++◌, ℤ, refl, sym, ap, subst, ◌∙◌}
 use Rattle.std.specs.Prelude.{if◌then◌else◌}

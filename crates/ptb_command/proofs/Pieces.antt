@@ -1,4 +1,4 @@
--- This file proves what showing bytes in two pieces comes to.
+-- This file proves the result of showing bytes in two pieces.
 -- Main lemma: `both_move`.
 use Rattle.std.proofs.Common.{◌≡◌, List, ◌++◌, ℕ, Result, sym, ap, subst, append_assoc}
 use Rattle.std.proofs.Math.Path.{fun_ext}

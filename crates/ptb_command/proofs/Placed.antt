@@ -1,4 +1,4 @@
--- This file proves for which places a machine's place stands.
+-- This file proves which places a machine's place stands for.
 -- Main lemma: `is_placed`.
 use Rattle.std.proofs.Common.{◌≡◌, Option, Some, None, refl}
 use Rattle.ptb_text.specs.Statements.{Statements}
@@ -6,7 +6,7 @@ use Rattle.ptb_command.specs.declared.location.Location.{Location}
 use Rattle.ptb_command.specs.State.{Place}
 use Rattle.ptb_command.specs.Representation.{PlaceIs, PlacesAre}
 
--- the place for which a spot stands
+-- the place that a spot stands for
 pub record IsPlaced (p : Statements) (o : Option Place) (s : Location) : Type 0 where
   pub place : Place
   pub there : o ≡ Some place

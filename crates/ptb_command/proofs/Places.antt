@@ -49,7 +49,7 @@ item_in_front x (Whole xs j) = refl
 item_in_front x (Malformed xs) = refl
 
 module _ (t : List ℕ) where
-  -- a round that isn't over reads one command, and goes on or is the last
+  -- a round that isn't over reads one command, and continues or is the last
   data Reads (c : Command) (r : Round Command) : Type 0 where
     Ends : commands_after t r ≡ c ∷ [] → Reads c r
     Goes : (j : ℕ) → r ≡ Onward c j → Reads c r
@@ -84,7 +84,7 @@ module _ (finding : FindingLaws) (spelling : SpellingLaws) (t : List ℕ) where
   pub commands_over : (b : ℕ) → is_over t b ≡ true → commands_from t b ≡ []
   commands_over b h = commands_by_round b ∙ ap (commands_after t) (round_over t b h)
 
-  -- where the text isn't over a command stands, and others may follow
+  -- where the text isn't over there is a command, and others may follow
   pub commands_there : (b : ℕ) → is_over t b ≡ false → (cs : List Command) × (commands_from t b ≡ command_at t b ∷ cs)
   commands_there b h = by_reads (command_round t b) (round_reads t b h) (commands_by_round b)
     where
@@ -138,7 +138,7 @@ module _ (finding : FindingLaws) (spelling : SpellingLaws) (t : List ℕ) where
       by_begin None h at e = absurd cc
       by_begin (Some i) h at e = let r = from_next (command_round t i) b e in at_suc k i b r.0 (at i h) r.1
 
-  -- a command that stands at an index begins at the byte place that stands for it
+  -- a command at an index begins at the byte place of this index
   here : (k b : ℕ) (c : Command) → begin_of t k ≡ Some b → slice_get (commands t) k ≡ Some c
       → (b : ℕ) × (begin_of t k ≡ Some b) × (is_over t b ≡ false) × (command_at t b ≡ c)
   here k b c h e = by_over (is_over t b) refl

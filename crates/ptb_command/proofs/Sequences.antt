@@ -4,7 +4,7 @@ use Rattle.std.proofs.Common.{◌≡◌, ℕ, zero, suc, ◌-◌, ◌<◌, List,
 use Rattle.ptb_expr.specs.Reading.{Reading}
 use Rattle.ptb_command.specs.Items.{Round, Last, Onward, in_front, with_others, items_within, items, Advances}
 
--- two ways to go on agree after a round if they agree where it goes on
+-- two ways to continue agree after a round if they agree where it continues
 with_others_same : {X : Type 0} (f g : ℕ → Reading (List X)) (r : Round X)
     → ((x : X) (j : ℕ) → r ≡ Onward x j → f j ≡ g j) → with_others f r ≡ with_others g r
 with_others_same f g (Last r) same = refl

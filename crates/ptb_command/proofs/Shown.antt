@@ -1,4 +1,4 @@
--- This file proves what showing bytes comes to.
+-- This file proves the result of showing bytes.
 -- Main lemma: `shown`.
 use Rattle.std.proofs.Common.{◌≡◌, ℕ, suc, ◌+◌, ◌-◌, ◌≤◌, ◌<◌, Bool, List, [], ◌∷◌, ◌++◌, length}
 use Rattle.std.proofs.Common.{take, drop, Result, Err, refl, sym, ap, subst, ◌∙◌, append-nil}
@@ -120,7 +120,7 @@ shown_as o n s bytes r e h = subst (λ (x : List ℕ). Comes nothing_refused o n
 
 -- ---- widths
 
--- digits behind a beginning of so many blanks
+-- digits after the first `start` of 255 blanks
 pub padded-is : (w : ℕ) (v : ℤ) (digits : List ℕ) (start : ℕ) → digits ≡ signed_decimal v → start ≡ w - length digits
     → w ≤ width_limit → take start (replicate 255 32) ++ digits ≡ padded_decimal w v
 padded-is w v digits start e k h =

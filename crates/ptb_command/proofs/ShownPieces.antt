@@ -1,4 +1,4 @@
--- This file proves what showing bytes in pieces comes to.
+-- This file proves the result of showing bytes in pieces.
 -- Main lemma: `report_shown`.
 use Rattle.std.proofs.Common.{◌≡◌, Bool, List, [], ◌++◌, ℕ, Result, Ok, Err, sym, ap, subst, ◌∙◌, append_assoc}
 use Rattle.std.specs.Prelude.{if◌then◌else◌, take, drop, codes, decimal}

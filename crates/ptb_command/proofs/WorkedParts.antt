@@ -1,4 +1,4 @@
--- This file proves what a part of a command comes to where it works something out.
+-- This file proves the result of a part of a command that works something out.
 -- Main lemma: `has_result`.
 use Rattle.std.proofs.Common.{◌≡◌, ℕ, List, Bool, [], ◌++◌, Result, Ok, Err, ℤ, refl, sym, ap}
 use Rattle.std.proofs.Common.{subst, ◌∙◌, append-nil, arith, inl, inr}
@@ -30,7 +30,7 @@ use Rattle.ptb_command.proofs.Due.{after_is, refines_part_dropped, stops_due, st
 use Rattle.ptb_command.specs.declared.stop.Stop.TheVariants as stops
 use Rattle.ptb_command.proofs.Stops.{asks_before, attempt_adds, or_halt_adds, stops_under}
 
--- for devices that hold d but for the choices, and a state that is fresh or not, with these bytes due and these cells
+-- for devices that hold d except the choices, and a state that is fresh or not, with these bytes due and these cells
 module _ {A : Type 0} (f : Cells → Work A) (c e : Choices) (d : Devices) (fresh : Bool) (due : List ℕ)
     (cells : Cells) where
   -- what is left of the work is what is left to do

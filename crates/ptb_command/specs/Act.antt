@@ -149,7 +149,7 @@ end_of (Malformed parts) = 0
 abbrev pub fails : FaultKind → ℕ → Action (Unit {0})
 fails kind m = halt (Faults (fault kind m))
 
--- the run goes on at a place
+-- the run continues at a place
 abbrev pub go_to : Option Place → Action (Unit {0})
 go_to q = change (λ S. record S { place = q })
 
@@ -167,7 +167,7 @@ if_room e f S a = if is_full S then fails kinds.Sorry e S a else change f S a
 
 -- ---- IF, GOTO, GOSUB and RETURN
 
--- 0 goes on with the next statement, any other value with what follows
+-- 0 continues with the next statement, any other value with what follows
 abbrev pub if_place : Statements → Place → Bool → Option Place
 if_place p q true = place_after p q.number
 if_place p q false = Some (next_index q)
@@ -211,7 +211,7 @@ loops_from x (l ∷ ls) = if l.letter == x then l ∷ ls else loops_from x ls
 abbrev pub is_past : Loop → ℤ → Bool
 is_past l v = if int_lt l.step (pos 0) then int_lt v l.limit else int_lt l.limit v
 
--- the loop is over: the run goes on after NEXT
+-- the loop is over: the run continues after NEXT
 abbrev pub loop_end : Place → List Loop → State → State
 loop_end next ls S = record S { place = Some next; loops = ls }
 
@@ -219,7 +219,7 @@ loop_end next ls S = record S { place = Some next; loops = ls }
 abbrev pub loop_turn : Loop → List Loop → State → State
 loop_turn l ls S = record S { place = Some l.back; loops = l ∷ ls }
 
--- the sum is stored, and the loop goes on or ends; without a sum it ends, and the variable keeps its value
+-- the sum is stored, and the loop continues or ends; without a sum it ends, and the variable keeps its value
 abbrev pub after_sum : Place → Loop → List Loop → Result ℤ FaultKind → State → State
 after_sum next l ls (Err kind) S = loop_end next ls S
 after_sum next l ls (Ok v) S =
@@ -272,7 +272,7 @@ ending_of kinds.Sorry = endings.Sorry
 -- ---- a step of a run
 
 pub data StepResult : Type 0 where
-  -- the run goes on
+  -- the run continues
   Next : (S : State) → StepResult
   -- the run is over
   Over : (ending : Ending) (S : State) → StepResult

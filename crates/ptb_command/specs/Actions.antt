@@ -1,6 +1,6 @@
--- This file defines what a part of a command comes to, and how one part follows another.
---     Action A                  what is done in a state with a list of answers: it goes on with an A in another state,
---                               or halts
+-- This file defines the result of a part of a command, and how one part follows another.
+--     Action A                  what is done in a state with a list of answers: it continues with an A in another
+--                               state, or halts
 --     and_then m next           one after the other
 --     goes_on x, halt h         nothing is done; the command stops
 --     attempt m, work_action m  something is worked out; its fault is a result, or halts
@@ -22,7 +22,7 @@ pub data Progress (A : Type 0) : Type 0 where
   Goes : (x : A) (S : State) → Progress A
   Halts : (halt : Halt) (S : State) → Progress A
 
--- beside a question stands the state in which it is asked
+-- a question is accompanied by the state in which it is asked
 abbrev pub Action : Type 0 → Type 0
 Action A = State → Answers → Outcome (Progress A) State
 

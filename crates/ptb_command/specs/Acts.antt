@@ -1,7 +1,7 @@
--- This file defines what a command comes to for a whole machine.
+-- This file defines the result of a command for a whole machine.
 --     Refines p old new o n f g           from machine to machine and devices to devices, what f does is what is left
 --                                         to do for g
---     Acts refused p old new o n f r   f comes to the result r
+--     Acts refused p old new o n f r   f has the result r
 use Rattle.std.specs.Prelude.{◌≡◌, ℕ, List, ◌++◌, Result, Ok, Err}
 use Rattle.ptb_text.specs.Statements.{Statements}
 use Rattle.ptb_answers.specs.Outcome.{Answers, Outcome}
@@ -14,7 +14,7 @@ use Rattle.ptb_command.specs.Configuration.{Configuration}
 use Rattle.ptb_command.specs.Representation.{Represents}
 use Rattle.ptb_command.specs.Stops.{Stops}
 
--- in state S, f comes to g in a state for which the machine then stands
+-- from state S, what is left of f is g, in a state that the machine then represents
 pub record Leads {A : Type 0} (p : Statements) (new : Configuration) (x : Exchange) (rest : List (List ℕ)) (S : State)
     (f : Answers → Outcome A State) (g : State → Answers → Outcome A State) : Type 0 where
   pub state : State
@@ -24,7 +24,7 @@ pub record Leads {A : Type 0} (p : Statements) (new : Configuration) (x : Exchan
   pub lines : state.lines ≡ rest
   pub choose : state.choose ≡ S.choose
 
--- in every state for which the old machine stands, which asks for answers as the devices say, and whose lines begin
+-- in every state that the old machine represents, which asks for answers as the devices say, and whose lines begin
 -- with those that are given, and have left what may follow them
 pub record Refines {A : Type 0} (p : Statements) (old new : Configuration) (o n : Devices) (f g : State → Answers
     → Outcome A State) : Type 0 where

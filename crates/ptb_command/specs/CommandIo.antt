@@ -1,6 +1,6 @@
 -- This file defines what the devices of a command hold.
---     io_devices choices screen most io given         what they hold, beside the lines that the source gave
---     io_trace choices screen most io given cells     the trace at which the devices stand
+--     io_devices choices screen most io given         what they hold, besides the lines that the source gave
+--     io_trace choices screen most io given cells     the trace at which the devices are
 --     due_trace choices screen most io given cells due     the same, with bytes that are gathered
 --     SameBorrows old new                             the borrows are the same, and the rules
 --     SameDevices old new                             so is the source, which gave nothing

@@ -1,7 +1,7 @@
 -- This file defines a statement as a list of commands. A command is its word and its parts in order.
 --     commands t               the commands of the statement text t
 --     commands_from t i        those from place i on
---     command_at t i           the command at place i; LET where no word stands
+--     command_at t i           the command at place i; LET where there is no word
 --     parts_of word t i        the parts of a command whose word ends at i
 use Rattle.std.specs.Prelude.{ℕ, Bool, true, false, ◌||◌, is_some, if◌then◌else◌, List, [], ◌∷◌}
 use Rattle.std.specs.Prelude.{◌++◌, reverse, Option, Some, None, slice_range, pos}
@@ -34,7 +34,7 @@ pub data Part : Type 0 where
   Letter : (letter : ℕ) → Part
   -- a value that the command uses
   Operand : (x : Tree) → Part
-  -- a part that must stand there and doesn't, or something that mustn't
+  -- a part that must be there and isn't, or something that mustn't be there
   Defect : (kind : FaultKind) (mark : ℕ) → Part
 
 -- the parts are malformed where one of them is, and nothing is read after it; else the place after them is known
@@ -44,11 +44,11 @@ pub record Command : Type 0 where
 
 -- ---- ends
 
--- the text is over, or `;` stands next
+-- the text is over, or `;` is next
 abbrev pub at_end : List ℕ → ℕ → Bool
 at_end t i = is_over t i || is_some (token_at 59 t i)
 
--- something else than what must stand at i
+-- something other than what must be at i
 abbrev pub defect : ℕ → Reading (List Part)
 defect i = Malformed (Defect What i ∷ [])
 
@@ -60,7 +60,7 @@ end_check t i = if at_end t i then Whole [] i else defect i
 abbrev pub over_check : List ℕ → ℕ → Reading (List Part)
 over_check t i = if is_over t i then Whole [] i else defect i
 
--- a part made of a tree, and after a whole one the parts behind it
+-- a part made of a tree, and after a whole one the parts after it
 abbrev pub part_and : (Tree → Part) → Reading Tree → (ℕ → Reading (List Part)) → Reading (List Part)
 part_and node r next = after r (λ x. node x ∷ []) (λ x j. in_front (node x) (next j))
 
@@ -109,7 +109,7 @@ width_or t i None = string_or_value t i (string_at t i)
 unfoldable pub print_item : List ℕ → ℕ → Reading Part
 print_item t i = width_or t i (token_at 35 t i)
 
--- behind a comma: the line stays open, or the next item
+-- after a comma: the line stays open, or the next item
 abbrev pub next_item : List ℕ → Part → ℕ → Bool → Round Part
 next_item t part j true = Last (Whole (part ∷ []) j)
 next_item t part j false = Onward part j
@@ -146,7 +146,7 @@ variable_item t i true = after (variable_tree t i) (λ x. Take [] x [])
     (λ x j. Whole (Take [] x (source t i j ++ 58 ∷ [])) j)
 variable_item t i false = Malformed (Defect What i)
 
--- a string, and a variable where one stands behind it
+-- a string, and a variable where one follows it
 abbrev pub string_item : List ℕ → List ℕ → ℕ → Bool → Reading Part
 string_item t s j true = map_reading (λ x. Take s x (58 ∷ [])) (variable_tree t j)
 string_item t s j false = Whole (Say s) j
@@ -242,7 +242,7 @@ abbrev pub command_unless : List ℕ → ℕ → Bool → Round Command
 command_unless t i true = Last (Whole [] i)
 command_unless t i false = after_command t (command_at t i) (command_at t i).parts
 
--- behind the last command, or a malformed one, nothing more is read
+-- after the last command, or a malformed one, nothing more is read
 unfoldable pub command_round : List ℕ → ℕ → Round Command
 command_round t i = command_unless t i (is_over t i)
 

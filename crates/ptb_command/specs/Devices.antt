@@ -109,7 +109,7 @@ pub record Exchanges (o n : Devices) (x : Exchange) : Type 0 where
   pub falls : n.most + length x.given ≤ o.most
   pub same_choose : n.choose ≡ o.choose
 
--- lines that may be left behind those that were given: none where the source can give none
+-- lines that may be left after those that were given: none where the source can give none
 abbrev pub MayFollow : Devices → List (List ℕ) → Type 0
 MayFollow d rest = d.most ≡ 0 → rest ≡ []
 
@@ -123,7 +123,7 @@ pub data Refusal : Type 0 where
   -- a line, as none is left
   NoLine : Refusal
 
--- what stands after a refusal where nothing is refused, where only the chooser refuses, and where both may
+-- what holds after a refusal where nothing is refused, where only the chooser refuses, and where both may
 abbrev pub nothing_refused : Refusal → Type 0
 nothing_refused r = ⊥
 

@@ -1,5 +1,5 @@
 -- This file defines what a command may change of the state in which it begins.
---     action_state o, act_state o      the state in which an action, or a whole command, goes on, halts or asks
+--     action_state o, act_state o      the state in which an action, or a whole command, continues, halts or asks
 --     Begins shown all                 all of it begins with what is shown
 --     TakesLines lines left            of the lines some were taken, from the first on, and these are left
 --     PartChange S T                   what the parts of a command may change
@@ -11,7 +11,7 @@ use Rattle.ptb_command.specs.State.{State, nesting, nesting_limit}
 use Rattle.ptb_command.specs.Actions.{Progress, Goes, Halts}
 use Rattle.ptb_command.specs.Act.{StepResult, Next, Over}
 
--- ---- where an outcome stands
+-- ---- the state of an outcome
 
 abbrev pub progress_state : {A : Type 0} → Progress A → State
 progress_state (Goes x S) = S

@@ -1,6 +1,6 @@
 -- This file defines items that follow one another in a text.
 --     items t round i          what the rounds read from place i on, one after the other
---     Advances t round         a round that goes on goes on further ahead in the text
+--     Advances t round         a round that continues does so further ahead in the text
 --     LiesOn t i j             j is a place that something read at i may end at, even if nothing is taken
 use Rattle.std.specs.Prelude.{◌≡◌, ℕ, zero, suc, ◌≤◌, List, [], ◌∷◌, length}
 use Rattle.ptb_words.specs.Words.{past_blanks}
@@ -27,7 +27,7 @@ unfoldable pub items_within : {X : Type 0} → ℕ → (ℕ → Round X) → ℕ
 items_within zero round i = Malformed []
 items_within (suc n) round i = with_others (items_within n round) (round i)
 
--- a round that goes on takes a byte, so a text has no more rounds than bytes, and one
+-- a round that continues takes a byte, so a text has no more rounds than bytes, and one
 unfoldable pub items : {X : Type 0} → List ℕ → (ℕ → Round X) → ℕ → Reading (List X)
 items t round i = items_within (suc (length t)) round i
 

@@ -24,7 +24,7 @@ abbrev pub print_round : List ℕ → ℕ → Round Part
 print_round t i = item_round t (print_item t i)
 
 pub record CommandLaws : Type 0 where
-  -- a round that goes on takes something
+  -- a round that continues takes something
   pub let_advances : (t : List ℕ) → Advances t (let_round t)
   pub input_advances : (t : List ℕ) → Advances t (input_round t)
   pub print_advances : (t : List ℕ) → Advances t (print_round t)
@@ -50,7 +50,7 @@ pub record CommandLaws : Type 0 where
   pub at_last :
       (t : List ℕ) (k b e : ℕ) (c : Command) → At t k b → command_round t b ≡ Last (Whole (c ∷ []) e)
       → is_over t e ≡ true → At t (k + 1) e
-  -- which command stands there, if one does
+  -- which command is there, if one is
   pub at_there :
       (t : List ℕ) (k b : ℕ) → At t k b → is_over t b ≡ false
       → slice_get (commands t) k ≡ Some (command_at t b)

@@ -1,6 +1,6 @@
--- This file defines what the step of NEXT comes to.
+-- This file defines the result of the step of NEXT.
 --     loop_of_open back m      an open loop, with the place to which it goes back
---     AddsStep l old new b r   what the sum r makes of the cells, and whether the loop goes on
+--     AddsStep l old new b r   what the sum r makes of the cells, and whether the loop continues
 use Rattle.std.specs.Prelude.{◌≡◌, Bool, false, not, ℤ, Result, Ok, Err}
 use Rattle.ptb_expr.specs.declared.fault.FaultKind.{FaultKind}
 use Rattle.ptb_expr.specs.Store.{Cells, with_value}

@@ -1,8 +1,8 @@
 -- This file defines what the readers of a statement give.
 --     IsRead t i r j       what was read at place i is whole, and j, which lies ahead, is the place after it
 --     IsClosed t i r j     the same of the parts of a command that ends at j
---     NextBegins t i j        behind a command that ends at i the next one begins at j
---     IsNext t i letter j           a letter stands at i, and the command ends behind it, with the next one at j
+--     NextBegins t i j        after a command that ends at i the next one begins at j
+--     IsNext t i letter j           a letter is at i, and the command ends after it, with the next one at j
 --     IsFirstWord t i word j     the word with which a command begins, and the place after it
 use Rattle.std.specs.Prelude.{◌≡◌, ◌≤◌, ◌⊎◌, ℕ, true, List, length, Some, None, unwrap_or}
 use Rattle.ptb_words.specs.declared.word.Table.TheVariants.{Commands}
@@ -24,7 +24,7 @@ pub record IsClosed (t : List ℕ) (i : ℕ) (r : Reading (List Part)) (j : ℕ)
   pub within : j ≤ length t
   pub ends : at_end t j ≡ true
 
--- j is the place of the command behind one that ends at i: after `;`, or there
+-- j is the place of the command after one that ends at i: after `;`, or there
 abbrev pub NextBegins : List ℕ → ℕ → ℕ → Type 0
 NextBegins t i j = (token_at 59 t i ≡ Some j) ⊎ ((token_at 59 t i ≡ None) × (j ≡ i))
 
@@ -38,7 +38,7 @@ pub record IsFirstWord (t : List ℕ) (i : ℕ) (word : Word) (j : ℕ) : Type 0
   pub from : i ≤ j
   pub within : j ≤ length t
 
--- a letter stands there, and the command ends behind it
+-- a letter is there, and the command ends after it
 pub record IsNext (t : List ℕ) (i letter next : ℕ) : Type 0 where
   pub end : ℕ
   pub is : letter_at t i ≡ Some (letter, end)

@@ -1,4 +1,4 @@
--- This file defines what showing bytes comes to.
+-- This file defines the result of showing bytes.
 --     IsShown o n bytes result     from trace o to trace n, the bytes were shown, or why they were not
 use Rattle.std.specs.Prelude.{ℕ, List, Result, Ok, Err}
 use Rattle.ptb_devices.specs.declared.fault.ScreenFault.{ScreenFault}

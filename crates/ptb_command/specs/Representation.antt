@@ -1,8 +1,8 @@
--- This file defines which states of a run a machine stands for.
+-- This file defines which states of a run a machine represents.
 --     PlaceIs p q m            a place of the definition is one of the machine
 --     IsLineAt p i n t         the number and the text of a statement
 --     Nested p os loops calls  the levels of the definition are what is open, newest first
---     Represents p m S             the machine stands for the state S, whatever was shown and whichever lines are left
+--     Represents p m S             the machine represents the state S, whatever was shown and whichever lines are left
 --     NextIs p q here t        the command that is next at a place, by its byte place and its text
 --     Begun p q k t word i     a command is begun: its word, which ends at i, was read
 use Rattle.std.specs.Prelude.{◌≡◌, ◌≤◌, ℕ, false, List, [], ◌∷◌, length, Option, Some, None, ℤ, pos, slice_get}
@@ -60,7 +60,7 @@ pub record LoopIs (p : Statements) (l : Loop) (m : OpenLoop) : Type 0 where
   pub step : l.step ≡ m.step
   pub back : PlaceIs p l.back m.back
 
--- a level's loops stand above the call that opened it
+-- a level's loops are above the call that opened it
 abbrev pub Nested : Statements → List Open → List Loop → List Call → Type 0
 Nested p [] [] [] = Unit {0}
 Nested p [] [] (c ∷ calls) = ⊥

@@ -24,7 +24,7 @@ pub record Call : Type 0 where
   pub back : Place
   pub loops : List Loop
 
--- where a run stands: at the end no place is left; the loops of the newest level, newest first; the calls, newest
+-- where a run is: at the end no place is left; the loops of the newest level, newest first; the calls, newest
 -- first; what is left of the input, what was shown, how many commands were begun; and, as long as the run lasts, the
 -- bound with which
 -- INPUT asks for an answer where no line is left, if it does

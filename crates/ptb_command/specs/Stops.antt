@@ -1,7 +1,7 @@
--- This file defines what a part of a command comes to, where it stops and where it goes on.
+-- This file defines the result of a part of a command, where it stops and where it continues.
 --
--- Where a device stops it, it has come to what is `left` to do. A question that was refused, or a line that isn't
--- there, is what is left next; where a device broke, the screen may have shown some of what is left.
+-- Where a device stops it, `left` is what is left to do. A question that was refused, or a line that isn't there, is
+-- what is left next; where a device broke, the screen may have shown some of what is left.
 --     stop_of_screen, stop_of_read, stop_of    why a command stops where a device fails, and where an expression has no
 --                                              value
 --     AsksNext f bound beside z            f asks a question next, which is refused for this pause
@@ -10,13 +10,13 @@
 --     WantsLine e ends bytes left          where the input can't be read, a line is wanted
 --     AsksUnanswered, IsOutOfLines, DeviceFails                 it stops at a question, at an input line, at a device
 --     Stops refused R n e                  it stops for the reason e
---     still_shows result                   once it comes to this, what is gathered is shown
+--     still_shows result                   with this result, what is gathered is shown
 --     Miss, stop_miss, miss_of             whether a result reports that a line was asked for without success
 --     UnlessMissed refused P miss          P holds, unless that is reported
 --     NotMissed choose old new most        no line was asked for without success, unless an answer was asked for
 --                                          instead
 --     ReportsMissed source choose old new miss    the same of a source, unless it is reported
---     Comes refused o n f ok result        from trace o to trace n, f comes to the result
+--     Comes refused o n f ok result        from trace o to trace n, f has the result
 use Rattle.std.specs.Prelude.{◌≡◌, ◌≤◌, ◌⊎◌, ℕ, Bool, true, false, List, [], ◌++◌, Option, Some}
 use Rattle.std.specs.Prelude.{None, Result, Ok, Err, ℤ, pos, ◌≤ℤ◌}
 use Rattle.ptb_expr.specs.declared.fault.Stop.{Stop as NoValue}
@@ -62,7 +62,7 @@ stop_of (values.Pause z) = stop_of_pause z
 
 -- ---- where it stops
 
--- want of memory is told as a device's error, and never as a pause
+-- lack of memory is reported as a device's error, and never as a pause
 abbrev pub IsRefusal : Pause → Type 0
 IsRefusal pauses.Ended = Unit {0}
 IsRefusal (pauses.OutOfRange k) = Unit {0}
@@ -179,7 +179,7 @@ abbrev pub ReportsMissed : {L : Type 0} → sources.Ghosts L → Option ℤ → 
 ReportsMissed source choose old new miss =
     UnlessMissed (source.refused new) (NotMissed choose (source.missed old) (source.missed new) (source.most new)) miss
 
--- ---- where it comes to
+-- ---- the results
 
 -- from trace o, f has come to an action; the trace is then n, with these devices
 abbrev pub RefinesPartTo : {A : Type 0} → Trace → Trace → Action A → Devices → Action A → Type 0

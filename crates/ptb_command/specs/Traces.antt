@@ -63,13 +63,13 @@ pub record Fits (o : Trace) (left : List (List ℕ)) (S : State) : Type 0 where
 abbrev pub after : Trace → List ℕ → List (List ℕ) → State → State
 after n bytes left S = record S { cells = n.cells; lines = left; shown = S.shown ++ bytes }
 
--- these bytes behind what is shown; what isn't there changes nothing
-abbrev pub behind : List ℕ → List ℕ → List ℕ
-behind shown [] = shown
-behind shown (b ∷ due) = shown ++ b ∷ due
+-- these bytes after what is shown; what isn't there changes nothing
+abbrev pub following : List ℕ → List ℕ → List ℕ
+following shown [] = shown
+following shown (b ∷ due) = shown ++ b ∷ due
 
 abbrev pub once_shown : List ℕ → State → State
-once_shown due S = record S { shown = behind S.shown due }
+once_shown due S = record S { shown = following S.shown due }
 
 -- ---- moves
 

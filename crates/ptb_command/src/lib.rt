@@ -2,7 +2,7 @@
 //! (`operation.rt`, `command_code.rt`) is then executed (`execution.rt`): it changes the store, the
 //! loops and calls that are open, and the place, and it shows, takes and asks.
 //!
-//! It stands on `ptb_devices`, `ptb_expr`, `ptb_answers`, `ptb_text`, `ptb_words`, `arrayvec` and
+//! It depends on `ptb_devices`, `ptb_expr`, `ptb_answers`, `ptb_text`, `ptb_words`, `arrayvec` and
 //! `itoa`. The crate above may rely on `translate` (the code is that of the parts that
 //! `specs/Commands` reads), on `Registers::execute` (a command is done by its code as `specs/Act`
 //! says), on `ProgramCode` (the code of a program, which of it is next at a place, and commands

@@ -5,9 +5,9 @@ ghost use Rattle.std.specs.Prelude.{◌≡◌, ◌↔◌, IsTrue};
 /// One of a program's statements, and a place in its text.
 #[derive(Clone, Copy, PartialEq, Eq)]
 pub struct Location {
-    /// How many statements stand before it.
+    /// How many statements are before it.
     pub statement: usize,
-    /// How many bytes of the text stand before the place.
+    /// How many bytes of the text are before the place.
     pub at: usize,
 }
 

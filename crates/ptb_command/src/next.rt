@@ -31,11 +31,11 @@ pub fn next_command<'a>(
     if !cursor.at_end() {
         return Some((here.statement, cursor));
     }
-    let behind = place_after(program, here.statement)?;
-    let (_, text) = line_at(program, behind.statement);
-    let cursor = Cursor::new(text, behind.at);
+    let following = place_after(program, here.statement)?;
+    let (_, text) = line_at(program, following.statement);
+    let cursor = Cursor::new(text, following.at);
     if cursor.at_end() {
         return None;
     }
-    Some((behind.statement, cursor))
+    Some((following.statement, cursor))
 }

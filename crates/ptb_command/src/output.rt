@@ -27,7 +27,7 @@ fn fresh_after(fresh: bool, bytes: &[u8]) -> bool
 /// # Errors
 ///
 /// [`ScreenFault`] where the screen doesn't show them all. `fresh` stays as it was then, and a
-/// beginning of the bytes may have been shown.
+/// prefix of the bytes may have been shown.
 pub fn put<S: Screen>(screen: &mut S, fresh: &mut bool, bytes: &[u8]) -> Result<(), ScreenFault>
     ensures { (d : Devices) (cells : Cells) → IsShown
         (trace (with_screen (screen_state S.Screen screen.old) d) fresh.old cells)

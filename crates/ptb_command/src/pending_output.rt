@@ -121,7 +121,7 @@ impl PendingOutput {
         self.flush_and_append(screen, fresh, bytes)
     }
 
-    // Shows what was gathered, and behind it bytes for which there was no room: these later, if
+    // Shows what was gathered, and after it bytes for which there was no room: these later, if
     // there is room then.
     #[inline(never)]
     fn flush_and_append<S: Screen>(

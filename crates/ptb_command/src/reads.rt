@@ -7,7 +7,7 @@ ghost use Rattle.ptb_command.specs.Reads.{IsFirstWord};
 
 use ptb_words::{Cursor, Table, Word, finding_laws};
 
-/// Whether a command ends at the cursor: the text is over, or `;` stands next.
+/// Whether a command ends at the cursor: the text is over, or `;` is next.
 pub(crate) fn at_end(cursor: &Cursor) -> bool
     ensures { result ≡ at_end cursor.now.text cursor.now.place }
 {
@@ -17,7 +17,7 @@ pub(crate) fn at_end(cursor: &Cursor) -> bool
     }
 }
 
-/// Takes the word with which a command begins; LET, and nothing is taken, where none stands there.
+/// Takes the word with which a command begins; LET, and nothing is taken, where there is none.
 #[inline(always)]
 pub(crate) fn first_word(cursor: &mut Cursor) -> Word
     requires { cursor.old.place ≤ length cursor.old.text }

@@ -1,4 +1,4 @@
-// This file has the registers, which are what commands change: where the run stands, what is stored,
+// This file has the registers, which are what commands change: where the run is, what is stored,
 // and what is open.
 
 ghost use Rattle.std.specs.Prelude.{◌≡◌, ℕ, ℤ, List, true, false, Option, IfOk, IsOk, OnOk, OnErr};

@@ -41,7 +41,7 @@ impl SavedStack {
         }
     }
 
-    /// Takes the loops and calls of a stack in place of its own.
+    /// Replaces its loops and calls with those of a stack.
     ///
     /// # Errors
     ///
@@ -69,7 +69,7 @@ impl SavedStack {
 }
 
 impl Stack {
-    /// Takes the loops and calls that were saved in place of its own.
+    /// Replaces its loops and calls with those that were saved.
     pub fn restore(&mut self, saved: &SavedStack)
         ensures { self.new ≡ saved.now }
     {

@@ -16,11 +16,11 @@ use std::marker::Model;
 pub const NESTING_LIMIT: usize = 256;
 
 /// An open FOR.
-// The place is first: behind the smaller parts it is copied together with the gap before it and read
-// back late, and NEXT took 17 ns so, in place of 11.
+// The place is first: after the smaller parts it is copied together with the gap before it and read
+// back late, and NEXT took 17 ns so, instead of 11.
 #[derive(Clone, Copy)]
 pub struct OpenLoop {
-    /// The command behind the FOR, where each turn begins.
+    /// The command after the FOR, where each turn begins.
     pub back: Location,
     /// Its variable.
     pub letter: Letter,
@@ -35,7 +35,7 @@ pub struct OpenLoop {
 pub enum Open {
     /// An open FOR.
     Loop(OpenLoop),
-    /// An open GOSUB, and the command behind it, to which RETURN goes back.
+    /// An open GOSUB, and the command after it, to which RETURN goes back.
     Call(Location),
 }
 
@@ -86,7 +86,7 @@ impl Stack {
         copy
     }
 
-    /// Takes the loops and calls of another stack in place of its own.
+    /// Replaces its loops and calls with those of another stack.
     pub fn copy_from(&mut self, other: &Stack)
         ensures { self.new ≡ other.now }
     {
@@ -206,7 +206,8 @@ impl Stack {
         self.close_above_call()
     }
 
-    // The same wherever the newest call stands. Not inlined, so that the code for the newest of all stays short.
+    // The same wherever the newest call is. Not inlined, so that the code for the newest of all
+    // stays short.
     #[inline(never)]
     fn close_above_call(&mut self) -> bool
         ensures { MatchBool result

@@ -1,4 +1,4 @@
-// This file finds the places of a program at which a run can go on.
+// This file finds the places of a program at which a run can continue.
 
 ghost use Rattle.std.specs.Prelude.{◌≡◌, ◌≤◌, [], Some, None, length, pos, slice_get};
 ghost use Rattle.ptb_text.specs.Statements.{text_limit};
@@ -40,10 +40,9 @@ pub fn first_place(program: &Program) -> Option<Location>
     }
 }
 
-/// The beginning of the statement behind this one, if there is one; none where there is no such
-/// statement.
+/// The beginning of the statement after this one; none where there is no such statement.
 pub fn place_after(program: &Program, statement: usize) -> Option<Location>
-    ensures behind { (q : Place) →
+    ensures following { (q : Place) →
         slice_get program.now.lines statement
         ≡ Some (q.number, text_of program.now.lines q.number) →
         PlacesAre program.now.lines (place_after program.now.lines q.number) result }

@@ -34,7 +34,7 @@ pub(crate) fn fault(kind: FaultKind, mark: usize) -> Stop
     Stop::Fault(Fault { kind, mark })
 }
 
-/// Whether what a command has gathered is shown once it comes to this.
+/// Whether what a command has gathered is shown when it has this result.
 pub(crate) fn still_shows<X: Copy>(done: Result<X, Stop>) -> bool
     ensures { result ≡ still_shows done }
 {

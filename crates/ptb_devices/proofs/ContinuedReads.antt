@@ -1,4 +1,4 @@
--- This file proves how an input goes on at each step: a line is cut, more is read, the end or a fault comes.
+-- This file proves how an input continues at each step: a line is cut, more is read, the end or a fault comes.
 -- Main lemmas: `ReadsOn_line`, `ReadsOn_more_bytes` and `ReadsOn_end`.
 use Rattle.std.proofs.Common.{◌≡◌, ℕ, ◌+◌, ◌-◌, ◌≤◌, ◌<◌, ◌⊎◌, inl, inr, min, Bool, true, false}
 use Rattle.std.proofs.Common.{ltb, List, [], ◌∷◌, ◌++◌, length, take, Option, Some, None, IfSome}
@@ -200,7 +200,7 @@ same_test : (a b c d : ℕ) → (a < b → c < d) → (c < d → a < b) → ltb 
 same_test a b c d to from =
     ltb_from_iff {b = ltb a b} {m = c} {n = d} (λ e. to (ltb-true a b e), λ h. lt-ltb a b (from h))
 
--- what is open, with the bytes that came behind it
+-- what is open, with the bytes that came after it
 abbrev pub state_at : Option (List ℕ) → Bool → List ℕ → ℕ → InputEnd → InputState
 state_at p given waiting left end = record { piece = p; is_given = given; waiting = waiting; left = left; end = end }
 

@@ -1,4 +1,4 @@
--- This file proves what the next line of an input comes to, from what came while it was asked for.
+-- This file proves the result for the next line of an input, from what came while it was asked for.
 -- Main lemmas: `last_given` and `none_given`.
 use Rattle.std.proofs.Common.{◌≡◌, ℕ, ◌≤◌, Bool, true, false, List, [], ◌∷◌, Option, Some, None}
 use Rattle.std.proofs.Common.{refl, sym, ap, subst, ◌∙◌, arith}
@@ -15,7 +15,7 @@ use Rattle.ptb_devices.specs.Inputs.{ReadsOn, fault_at}
 use Rattle.ptb_devices.specs.InputLaws.{ReadsOn_then}
 use Rattle.ptb_devices.proofs.ContinuedReads.{ReadsOn_forget, ReadsOn_line, ReadsOn_whole, ReadsOn_all, ReadsOn_last}
 
--- where none is left behind no lines, none was left before
+-- where none is left after no lines, none was left before
 pub none_left_before : (a b : Option (List (List ℕ))) → Loses a b [] → NoneLeft b → NoneLeft a
 none_left_before None b l n = tt
 none_left_before (Some xs) None l n = absurd l

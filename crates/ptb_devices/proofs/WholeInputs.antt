@@ -1,4 +1,4 @@
--- This file proves what holds at each way out of reading a whole input, from what its reader knows of each step.
+-- This file proves what holds at each exit from reading a whole input, from what its reader knows of each step.
 -- Main lemma: `told_all`.
 use Rattle.std.proofs.Common.{◌≡◌, ◌∙◌, ℕ, ◌+◌, ◌-◌, ◌<◌, ◌≤◌, List, ◌++◌, length, length-append}
 use Rattle.std.proofs.Common.{Option, IfSome, Result, Ok, Err, IfOk, IsOk, inl, inr, min, refl, sym}

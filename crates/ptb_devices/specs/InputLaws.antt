@@ -1,4 +1,4 @@
--- This file proves the laws of an input that goes on, as a line source has to keep them.
+-- This file proves the laws of an input that continues, as a line source has to keep them.
 --     ReadsOn_none, ReadsOn_more       no line was taken; lines were taken in two parts
 --     Loses_none, Loses_more           the same for the lines alone
 use Rattle.std.proofs.Common.{◌≡◌, ℕ, zero, suc, ◌+◌, ◌-◌, ◌≤◌, ◌<◌, ◌⊎◌, inl, inr, true, List, []}
@@ -85,7 +85,7 @@ take-split (suc n) (x ∷ xs) ys =
 
 -- ---- cutting over several calls
 
--- where q and the bytes w are left of a first cut, a second goes on with them
+-- where q and the bytes w are left of a first cut, a second continues with them
 Cuts_on : (p q r : Option (List ℕ)) (v w first second : List ℕ) (xs ys zs : List (List ℕ))
     → Cuts p (v ++ first) (xs ++ whole_lines q w) (last_piece q w)
     → Cuts q (w ++ second) (ys ++ zs) r → Cuts p (v ++ (first ++ second)) ((xs ++ ys) ++ zs) r
@@ -127,7 +127,7 @@ none_known m none = by_state m.state.end m.state.waiting (open_piece m.state) re
     by_state Failed waiting p e f g bytes = absurd (omega (arith, rw e at none))
     by_state Exceeded waiting p e f g bytes = absurd (omega (arith, rw e at none))
 
--- ---- an input that goes on
+-- ---- an input that continues
 
 pub ReadsOn_none : (wanted : ℕ) (m : InputNow) → ReadsOn wanted m [] m
 ReadsOn_none wanted m = record {
@@ -209,11 +209,11 @@ module _ (first_wanted second_wanted wanted : ℕ) (m n o : InputNow) (xs ys : L
       (xs ++ whole_lines (open_piece n.state) n.state.waiting) (last_piece (open_piece n.state) n.state.waiting) =
       subst (λ (l : List ℕ). Cuts (open_piece m.state) (m.state.waiting ++ l) (xs ++ whole_lines (open_piece n.state)
       n.state.waiting) (last_piece (open_piece n.state) n.state.waiting)) all (first.cut going) in
-      let behind : List (List ℕ) = whole_lines (open_piece n.state) (n.state.waiting ++ h.before) in
+      let following : List (List ℕ) = whole_lines (open_piece n.state) (n.state.waiting ++ h.before) in
       let both : whole_lines (open_piece m.state) (m.state.waiting ++ (first.taken ++ h.before))
-      ≡ (xs ++ []) ++ behind =
+      ≡ (xs ++ []) ++ following =
       (Cuts_on (open_piece m.state) (open_piece n.state) _ m.state.waiting n.state.waiting first.taken h.before xs
-      [] behind before (refl, refl)).0 in
+      [] following before (refl, refl)).0 in
       record {
         before = first.taken ++ h.before;
         piece = h.piece;
@@ -223,7 +223,7 @@ module _ (first_wanted second_wanted wanted : ℕ) (m n o : InputNow) (xs ys : L
         needed = omega (
           arith,
           ap length both,
-          length-append (xs ++ []) behind,
+          length-append (xs ++ []) following,
           length-append xs [],
           length-append xs ys,
           h.needed,

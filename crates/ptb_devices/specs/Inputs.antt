@@ -14,7 +14,7 @@
 --     IsCounted old new n            so many bytes were given, as a reader counts them
 --     IsReadAhead a taken most       these bytes were taken because fewer than so many lines were whole before the last
 --                                    read
---     ReadsOn wanted m given n       the input went on from m to n, and gave these lines; so many more were asked for
+--     ReadsOn wanted m given n       the input continued from m to n, and gave these lines; so many more were asked for
 --     asked a                        how many lines were asked for that could not be given
 --     fault_at end, Refuses end f    the fault that is answered from there on
 use Rattle.std.specs.Prelude.{◌≡◌, ℕ, ◌+◌, ◌-◌, ◌<◌, ◌≤◌, ◌⊎◌, nat_lt, Bool, true, false}
@@ -48,7 +48,7 @@ fresh_input = record { piece = None; is_given = false; waiting = []; left = INPU
 abbrev pub open_piece : InputState → Option (List ℕ)
 open_piece a = if a.is_given then None else a.piece
 
--- the buffer's bytes from the first place to the second wait to be cut, and the reader may go on only where a byte
+-- the buffer's bytes from the first place to the second wait to be cut, and the reader may continue only where a byte
 -- may still be taken
 pub record IsWithin (buffer : List ℕ) (from to left : ℕ) (end : InputEnd) : Type 0 where
   pub ordered : from ≤ to
@@ -74,7 +74,7 @@ ends_within Failed left bytes = nat_lt (length bytes) left
 ends_within Exceeded left bytes = nat_lt (length bytes) left
 
 -- a last piece is a line where the bytes end with it; where the input is cut off as too long, the line that is cut
--- stands last, and is never given
+-- is last, and is never given
 abbrev pub lines_to_end : Bool → Option (List ℕ) → List ℕ → List (List ℕ)
 lines_to_end ends p bytes =
     whole_lines p bytes ++ (if ends then last_line (last_piece p bytes) else (kept_bytes (last_piece p bytes) ∷ []))
@@ -121,7 +121,7 @@ abbrev pub TakesWhole : InputState → Option (Bor (List ℕ)) → InputState �
 TakesWhole a None b = b ≡ a
 TakesWhole a (Some line) b = TakesLine a line.now b
 
--- ---- how it goes on
+-- ---- how it continues
 
 pub record InputNow : Type 0 where
   pub state : InputState

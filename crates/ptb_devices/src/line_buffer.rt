@@ -17,7 +17,7 @@ use crate::whole_input::{BUFFER_SIZE, INPUT_LIMIT};
 use ptb_text::{DeviceFault, Read};
 use std::marker::Model;
 
-/// How an input goes on.
+/// How an input continues.
 #[derive(Clone, Copy)]
 pub(crate) enum InputEnd {
     /// Its reader may have more.
@@ -33,11 +33,11 @@ pub(crate) enum InputEnd {
 /// What has come of an input and was not given.
 #[derive(Drop)]
 pub(crate) struct LineBuffer {
-    /// What the reader gave last stands in front.
+    /// What the reader gave last is at the front.
     bytes: [u8; BUFFER_SIZE],
     /// Of these bytes, those from here on wait to be cut.
     from: usize,
-    /// Behind this place nothing came.
+    /// Nothing came after this place.
     to: usize,
     /// How many bytes may still be taken. The last of them only shows that the input is too long.
     left: usize,

@@ -24,13 +24,13 @@ pub trait LineSource {
     /// At most how many lines it can still give.
     ghost most: { Self → ℕ };
 
-    /// What stands between two states of it, where the calls in between gave these lines.
+    /// What holds between two states of it, where the calls in between gave these lines.
     ghost gives: { Self → List (List ℕ) → Self → Type 0 };
 
     /// How many lines were asked for without success, of those that it can tell.
     ghost missed: { Self → ℕ };
 
-    /// What stands after a fault.
+    /// What holds after a fault.
     ghost refused: { Self → ReadFault → Type 0 };
 
     /// The next line, of at most 255 bytes, or none at the end.
@@ -91,7 +91,7 @@ impl Model for Line {
 
 impl Line {
     /// The line that these bytes are: tabs are made spaces, then whatever doesn't print (below 32,
-    /// above 126) goes, and then all behind the 255th byte.
+    /// above 126) is removed, and then everything after the 255th byte.
     ///
     /// # Errors
     ///

@@ -37,7 +37,7 @@ impl<'a, R: Read> ReaderLines<'a, R> {
         ReaderLines { reader, buffer }
     }
 
-    /// The fault that it answers from here on, if it has come to one.
+    /// The fault that it answers from here on, if it has reached one.
     pub fn fault(&self) -> Option<ReadFault>
         ensures { result ≡ fault_at (line_input self.now).end }
     {

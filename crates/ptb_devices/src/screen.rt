@@ -31,7 +31,7 @@ pub trait Screen {
     /// # Errors
     ///
     /// [`ScreenFault::Write`] where its writer failed, [`ScreenFault::Memory`] where a growth was
-    /// refused memory. A beginning of the bytes may have been shown then.
+    /// refused memory. A prefix of the bytes may have been shown then.
     fn put(&mut self, bytes: &[u8]) -> Result<(), ScreenFault>
         ensures ok { OnOk result (Appends (shown self.old) (shown self.new) bytes.now) }
         ensures fault { OnErr result (TakesSome (shown self.old) (shown self.new) bytes.now) }

@@ -41,7 +41,7 @@ module _ {A W : Type 0} (play : Answers → Outcome A W) (most : ℕ) (reads : I
   run_opens plan r = let w = whole_is (play plan) r in rw w.1 refl
 
 -- Of `answers`, the first `planned` are a plan and the others, if any, are ones; the first `count` of them were
--- taken, all of them where there are ones, and play came to a result.
+-- taken, all of them where there are ones, and play had a result.
 pub record Took {A W : Type 0} (play : Answers → Outcome A W) (plan answers : Answers) (planned count : ℕ)
     (result : A) : Type 0 where
   pub plan_is : take planned answers ≡ plan

@@ -1,4 +1,4 @@
--- This file proves from which of the copies the run of the next plan goes on.
+-- This file proves from which of the copies the run of the next plan continues.
 -- Main lemma: `on_prefix`.
 use Rattle.std.proofs.Common.{◌≡◌, ℕ, ◌-◌, ◌≤◌, List, [], ◌∷◌, ◌++◌, length, take, drop, Some, refl}
 use Rattle.std.proofs.Common.{ap, sym, subst, ◌∙◌, arith, append_assoc}

@@ -287,7 +287,7 @@ module _ (p : StoredProgram) (input : List (List ℕ)) (rules : Rules) where
         steps = ap last_steps is ∙ last_at 0 front k ∙ ap steps_or_none (sym same.machine);
       }
 
--- ---- continuing from a beginning of an earlier run
+-- ---- continuing from a prefix of an earlier run
 
 bounds-take : {A W : Type 0} (play : Answers → Outcome A W) (n : ℕ) (p a : Answers)
     → take n (bounds_after play p a) ≡ bounds_after play p (take n a)

@@ -59,8 +59,8 @@ filter_next under front r (x ∷ xs) up (inl e) h none =
     let rest : filter (is_left under front) xs ≡ filter (is_left under (At r)) xs = filter_same _ _ xs (λ b i.
     let later : Before x b = all_at (Before x) xs b up.0 i in
     let since : is_after front b ≡ true = after_then front x b (left_after under front x hx) later in
-    let behind : is_before r b ≡ true = rw e later in
-    ap (λ t. begins_with b under && t) (since ∙ sym behind)) in
+    let following : is_before r b ≡ true = rw e later in
+    ap (λ t. begins_with b under && t) (since ∙ sym following)) in
     rw (hx, self) (ap (λ s. x ∷ s) rest ∙ ap (λ z. z ∷ filter (is_left under (At r)) xs) (sym e))
 filter_next under front r (x ∷ xs) up (inr i) h none =
     let below : Before x r = all_at (Before x) xs r up.0 i in

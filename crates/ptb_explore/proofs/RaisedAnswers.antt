@@ -158,7 +158,8 @@ module _ {A W : Type 0} (play : Answers → Outcome A W) (most : ℕ) (reads : I
   next_plan under AtStart answers plan bounded i s p = rw p.1 (start_plan under s)
   next_plan under AtRun answers plan bounded i s p =
       let last : IsLastBelow (length under) answers (bounds play answers) i = rw s.1 at p.0 in
-      rw p.1 (raise_under under answers i s.2 last.behind _ (raise_plan answers i s.0 last.within last.below last.last))
+      rw p.1 (raise_under under answers i s.2 last.following _
+      (raise_plan answers i s.0 last.within last.below last.last))
   next_plan under AtEnd answers plan bounded i s p = absurd p
 
   pub last_plan : (under : Answers) (position : Position) (answers plan : Answers) (bounded : List ℤ)

@@ -292,7 +292,7 @@ module _ (laws : RunLaws) (p : StoredProgram) (input : List (List ℕ)) (rules :
       (record { represents = u.represents; lines = u.left_is ∙ l; follow = follows; choose = u.choose })) in
       ending_comes m new c d bound s t given left rest most few u e x
 
-  -- a machine that isn't spent, whose bytes and lines are in memory, has no fault but want of memory
+  -- a machine that isn't spent, whose bytes and lines are in memory, has no fault except lack of memory
   module _ (refuses : Pause → ℤ → Type 0) (m new : Configuration) (c d : Choices) (s t : List ℕ)
       (given left rest : List (List ℕ)) (most few : ℕ) (r : Result (Option Ending) RunFault)
       (u : IsRunPrefix p input rules c s left m) (l : left ≡ given ++ rest) (follows : few ≡ 0

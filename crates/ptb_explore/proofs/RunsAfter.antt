@@ -19,15 +19,15 @@ filter-all p [] h = refl
 filter-all p (x ∷ xs) h = rw h.0 (ap (λ s. x ∷ s) (filter-all p xs h.1))
 
 -- in a rising list, what is after a member comes after it
-filter-behind : (xs ys : List Answers) (r : Answers) → IsRising (xs ++ r ∷ ys)
+filter-following : (xs ys : List Answers) (r : Answers) → IsRising (xs ++ r ∷ ys)
     → filter (is_before r) (xs ++ r ∷ ys) ≡ ys
-filter-behind [] ys r up =
+filter-following [] ys r up =
     let self : is_before r r ≡ false = false_from_ne_true _ (λ t. before_self r t) in
     rw self (filter-all (is_before r) ys up.0)
-filter-behind (x ∷ xs) ys r up =
+filter-following (x ∷ xs) ys r up =
     let below : Before x r = all_at (Before x) (xs ++ r ∷ ys) r up.0 (in_right r xs (r ∷ ys) (inl refl)) in
     let back : is_before r x ≡ false = false_from_ne_true _ (λ t. before_not_back x r below t) in
-    rw back (filter-behind xs ys r up.1)
+    rw back (filter-following xs ys r up.1)
 
 text-append : (report : Answers → List ℕ) (xs ys : List Answers)
     → text report (xs ++ ys) ≡ text report xs ++ text report ys
@@ -36,10 +36,10 @@ text-append report (x ∷ xs) ys = ap (λ s. report x ++ s) (text-append report 
     ∙ sym (append_assoc (report x) (text report xs) (text report ys))
 
 module _ {A W : Type 0} (play : Answers → Outcome A W) (most : ℕ) (reads : IsReader play most) where
-  behind : (front back : List Answers) (r : Answers) → tree play most ≡ front ++ r ∷ back
+  following : (front back : List Answers) (r : Answers) → tree play most ≡ front ++ r ∷ back
       → runs_after play most [] (At r) ≡ back
-  behind front back r e = ap (filter (is_before r)) e
-      ∙ filter-behind front back r (rw e at (tree_rises play most reads))
+  following front back r e = ap (filter (is_before r)) e
+      ∙ filter-following front back r (rw e at (tree_rises play most reads))
 
   left : (under : Answers) (f : Front) (a : Answers)
       → Contains (runs_after play most under f) a ↔ (IsRun play a × (is_left under f a ≡ true))
@@ -56,9 +56,9 @@ module _ {A W : Type 0} (play : Answers → Outcome A W) (most : ℕ) (reads : I
 
   pub listing_laws : ListingLaws play most
   listing_laws = record {
-    behind = behind;
+    following = following;
     whole_text = λ report front back r e.
-        ap (λ s. text report (front ++ r ∷ []) ++ text report s) (behind front back r e)
+        ap (λ s. text report (front ++ r ∷ []) ++ text report s) (following front back r e)
         ∙ sym (text-append report (front ++ r ∷ []) back)
         ∙ ap (text report) (append_assoc front (r ∷ []) back ∙ sym e);
     runs = left;

@@ -12,7 +12,7 @@
 --     KeptRun                                what contracts see of a copy
 --     kept_runs answers ks                   what contracts see of the copies of a run with these answers
 --     kept_steps answers runs                the steps of the newest that these answers begin with
---     AreBeginnings m answers runs           each took a beginning of the answers, longer than that of the one before
+--     AreBeginnings m answers runs           each took a prefix of the answers, longer than that of the one before
 --                                            it
 --     ArePlaces p input rules runs           the steps of each are those of the command that took its last answer
 --     play_limit                             more commands than one play can add
@@ -113,7 +113,7 @@ module _ (p : StoredProgram) (input : List (List ℕ)) (rules : Rules) where
     pub taken_by : AreTakenBy t machine.steps
     pub run_prefix : IsRunPrefix p input rules (taken_choices (play p input rules) t) w (drop k.lines input) machine
 
-  -- each took a beginning of the answers, longer than that of the copy before it, and showed a prefix of the bytes
+  -- each took a prefix of the answers, longer than that of the copy before it, and showed a prefix of the bytes
   abbrev pub KeptFrom : Answers → List ℕ → ℕ → ℕ → List KeptCopy → Type 0
   KeptFrom t w m n [] = (m ≤ length t) × (n ≤ length w)
   KeptFrom t w m n (k ∷ ks) = (m < k.taken) × (n ≤ k.shown) × StandsAt k (take k.taken t) (take k.shown w)

@@ -108,7 +108,7 @@ pub record RefusedNext (old new : Exploration) : Type 0 where
   pub played : old.played ≤ new.played
   pub once : new.played < old.played + play_limit
 
--- or past the last run, or where it stood
+-- or past the last run, or where it was
 abbrev pub NextLeaves : Exploration → Result (Option (Bor Report)) AllocError → Exploration → Type 0
 NextLeaves old (Ok (Some r)) new = FoundNext old r.now new
 NextLeaves old (Ok None) new = new ≡ record old { front = End; kept = [] }

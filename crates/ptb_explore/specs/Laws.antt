@@ -25,7 +25,7 @@ pub record TreeLaws {A W : Type 0} (play : Answers → Outcome A W) (most : ℕ)
 
 pub record ListingLaws {A W : Type 0} (play : Answers → Outcome A W) (most : ℕ) : Type 0 where
   -- after a run come those that the tree has after it
-  pub behind :
+  pub following :
       (front back : List Answers) (r : Answers) → tree play most ≡ front ++ r ∷ back
       → runs_after play most [] (At r) ≡ back
   -- so the reports up to a run, and those after it, are all reports

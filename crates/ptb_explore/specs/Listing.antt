@@ -49,7 +49,7 @@ module _ {A W : Type 0} (play : Answers → Outcome A W) (under : Answers) (repo
     pub count : n ≡ count_of list
     pub front : (f' ≡ front_after f list) ⊎ ((f' ≡ End) × IsLast play under (front_after f list))
 
-  -- the reports of a beginning of the list were written, and not the complete list; it is after them
+  -- the reports of a prefix of the list were written, and not the complete list; it is after them
   pub record WritesSome (list : List Answers) (f f' : Front) (old new : Option (List ℕ)) (n : ℕ) : Type 0 where
     pub beginning : List Answers
     pub rest : List Answers
@@ -59,7 +59,7 @@ module _ {A W : Type 0} (play : Answers → Outcome A W) (under : Answers) (repo
     pub count : n ≡ count_of beginning
     pub front : f' ≡ front_after f beginning
 
-  -- the reports of a beginning of the list were written, and a prefix of the next; it is at that one
+  -- the reports of a prefix of the list were written, and a prefix of the next; it is at that one
   pub record WritesInto (list : List Answers) (f f' : Front) (old new : Option (List ℕ)) (n : ℕ) : Type 0 where
     pub beginning : List Answers
     pub at : Answers

@@ -41,9 +41,9 @@ pub record IsPlan {A W : Type 0} (play : Answers → Outcome A W) (under : Answe
 abbrev pub IsAtBound : Answers → List ℤ → ℕ → Type 0
 IsAtBound answers bounds k = slice_index_or bounds k (pos 0) ≤ℤ slice_index_or answers k (pos 0)
 
--- those in front of the floor stay as they are
+-- those before the floor stay as they are
 pub record IsLastBelow (floor : ℕ) (answers : Answers) (bounds : List ℤ) (i : ℕ) : Type 0 where
-  pub behind : floor ≤ i
+  pub following : floor ≤ i
   pub within : i < length answers
   pub below : slice_index_or answers i (pos 0) <ℤ slice_index_or bounds i (pos 0)
   pub last : (k : ℕ) → i < k → k < length answers → IsAtBound answers bounds k

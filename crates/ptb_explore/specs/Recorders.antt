@@ -25,7 +25,7 @@ choices_of r = record {
   kept = Some (given_bounds r);
 }
 
--- never for want of answers; as out of range only where the plan's next answer is
+-- never for lack of answers; as out of range only where the plan's next answer is
 abbrev pub RefusedByPlan : Choices → ℤ → Pause → ℤ → Type 0
 RefusedByPlan c bound Ended n = ⊥
 RefusedByPlan c bound (OutOfRange g) n = ((rest : List ℤ) × (c.plan ≡ c.taken ++ g ∷ rest)) × (is_answer n g ≡ false)

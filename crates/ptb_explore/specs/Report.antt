@@ -11,7 +11,7 @@ use Rattle.ptb_answers.specs.declared.form.Marked.{Marked}
 use Rattle.ptb_answers.specs.AnswerText.{items_in}
 use Rattle.ptb_report.specs.Report.{report_text}
 
--- a run whose answers are all taken never ends for want of one, nor with one outside its bound
+-- a run whose answers are all taken never ends for lack of one, nor with one outside its bound
 abbrev pub ending_word : Ending → List ℕ
 ending_word endings.End = codes "END"
 ending_word endings.Stop = codes "STOP"

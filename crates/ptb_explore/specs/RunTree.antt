@@ -1,5 +1,5 @@
 -- This file defines the runs of what takes answers one by one, their order, and how a listing goes through them.
---     IsRun play a                     play comes to a result, and uses up the answers
+--     IsRun play a                     play has a result, and uses up the answers
 --     is_before a b, Before a b        where a and b first differ, a's answer is the smaller
 --     tree play most                   all runs, where none has more answers than this
 --     Front                            where a listing is
@@ -43,13 +43,13 @@ abbrev pub answers_to : ℤ → List ℤ
 answers_to (pos n) = map pos (range_with_len 1 n)
 answers_to (negsuc n) = []
 
--- q itself where it comes to a result, what is below a question where it comes to one, else nothing
+-- q itself where the play has a result, what is below a question where it asks one, otherwise nothing
 abbrev pub leaves_of : {A W : Type 0} → Answers → (ℤ → List Answers) → Outcome A W → List Answers
 leaves_of q below (Done x rest) = q ∷ []
 leaves_of q below (Asks n w) = below n
 leaves_of q below (Out n w) = []
 
--- the lists that begin with q, have at most d answers more, and come to a result
+-- the lists that begin with q, have at most d answers more, and have a result
 abbrev pub leaves : {A W : Type 0} → (Answers → Outcome A W) → Answers → ℕ → List Answers
 leaves play q zero = leaves_of q (λ n. []) (play q)
 leaves play q (suc d) = leaves_of q (λ n. flat_map (λ k. leaves play (q ++ k ∷ []) d) (answers_to n)) (play q)

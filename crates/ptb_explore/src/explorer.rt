@@ -26,7 +26,7 @@ pub struct Explorer<'a> {
     pub(crate) runner: Runner<'a>,
     /// The answers with which each of the runs begins.
     pub(crate) under: Vec<Marked>,
-    /// Where the listing of the runs stands.
+    /// Where the listing of the runs is.
     pub(crate) position: Position,
 }
 

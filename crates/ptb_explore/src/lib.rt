@@ -1,6 +1,6 @@
 //! All runs of a Tiny BASIC program, in the order of their answers, and their reports.
 //!
-//! It stands on `ptb_machine`, on definitions of the two crates below that, on `ptb_report`,
+//! It depends on `ptb_machine`, on definitions of the two crates below that, on `ptb_report`,
 //! `ptb_answers`, `ptb_text`, `arrayvec` and `thiserror`, and on a definition of `rand_pcg`. The crate
 //! above may rely on `Explorer::start` `after` and `after_marked` (where a listing begins, or why
 //! the answers are no run), on `under` and `after_under` (the same for the runs that begin with a

@@ -11,7 +11,7 @@ use crate::recorder::Recorder;
 use ptb_answers::{Asked, Marked};
 use std::alloc::AllocError;
 
-/// Where a listing of all runs stands.
+/// Where a listing of all runs is.
 #[derive(Clone, Copy)]
 pub(crate) enum Position {
     /// Before the first run.
@@ -22,7 +22,7 @@ pub(crate) enum Position {
     AtEnd,
 }
 
-// The last place at which the answer is below its bound, except those in front of the floor.
+// The last place at which the answer is below its bound, except those before the floor.
 fn last_below(asked: &[Asked], floor: usize) -> Option<usize>
     ensures place { MatchOption result
         (AreAtBounds floor (answers_in asked.now) (bounds_in asked.now))
@@ -44,7 +44,7 @@ fn last_below(asked: &[Asked], floor: usize) -> Option<usize>
 /// room for is raised by one, and those after it are dropped. The answers with which each run of
 /// the listing begins stay.
 ///
-/// It gives the number of answers in front of the raised one, or `None` where no run is left.
+/// It gives the number of answers before the raised one, or `None` where no run is left.
 ///
 /// # Errors
 ///

@@ -205,7 +205,7 @@ impl<'a> Runner<'a> {
     }
 
     /// Makes the report of the next run of those that begin with some answers, and says whether there
-    /// is one. The listing stands at the run of the report, or as the position says.
+    /// is one. The listing is at the run of the report, or as the position says.
     ///
     /// # Errors
     ///

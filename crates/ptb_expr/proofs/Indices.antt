@@ -1,4 +1,4 @@
--- This file proves that one comparison tells whether an index is within the array.
+-- This file proves that one comparison shows whether an index is within the array.
 -- Main lemma: `index_within`.
 use Rattle.std.proofs.Common.{◌≡◌, ◌<◌, ◌+◌, ◌/◌, ℕ, ℤ, pos, negsuc, ◌≤ℤ◌, Ok, unsigned_abs}
 use Rattle.std.proofs.Common.{FitsSigned, w16, of_z, arith}

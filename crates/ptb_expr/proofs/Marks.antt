@@ -136,7 +136,7 @@ module _ (laws : FindingLaws) (t : List ℕ) where
   node_marked node i m (Whole x k) f h g d = f x k d (g x k refl)
   node_marked node i m (Malformed x) f h g d = f x m d h
 
-  -- the tree that a list goes on from
+  -- the tree that a list continues from
   abbrev IsBefore : Part → Type 0
   IsBefore (MoreSum x) = MarksWithin (length t) x
   IsBefore (MoreProduct x) = MarksWithin (length t) x

@@ -1,4 +1,4 @@
--- This file proves which operator stands where a byte stands next.
+-- This file proves which operator is next, by the next byte.
 -- Main lemma: `number_alone`.
 use Rattle.std.proofs.Common.{◌≡◌, ℕ, ◌+◌, ◌≤◌, ◌∙◌, Bool, true, false, List, refl, ap, eqb, leb}
 use Rattle.std.proofs.Common.{sym, Option, Some, None, arith}
@@ -14,7 +14,7 @@ use Rattle.ptb_expr.specs.declared.operator.Operator.TheVariants.{GreaterEqual, 
 use Rattle.ptb_expr.specs.declared.operator.Operator.TheVariants.{Equals, LessEqual, Less}
 use Rattle.ptb_expr.specs.Operators.{product_operator, sum_operator, comparison}
 
--- no byte stands next that is c
+-- the next byte is not c
 other_byte : (c b : ℕ) → (b ≡ c → ⊥) → eqb c b ≡ false
 other_byte c b h = ne_eqb c b (λ e. h (sym e))
 
@@ -119,7 +119,7 @@ no_function t i b s r a z = s.word Functions (rw (ne_eqb b 82 r, ne_eqb b 65 a, 
 
 -- ---- numbers
 
--- where a number stands, nothing else does
+-- where a number is, nothing else is
 pub record IsAlone (t : List ℕ) (i : ℕ) : Type 0 where
   pub no_function : word_at Functions t i ≡ None
   pub no_letter : letter_at t i ≡ None

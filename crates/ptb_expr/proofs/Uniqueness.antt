@@ -109,7 +109,7 @@ module _ (t : List ℕ) (within : ℕ → Reading Tree) where
   unfolding factor plain variable variable_or
   factor_letter i b e f = rw (e, f) refl
 
-  -- with an element both are read, whether a letter stands there or not
+  -- with an element both are read, whether a letter is there or not
   element_or : (o : Option (ℕ × ℕ)) (i j : ℕ) (d : Reading Tree) → letter_at t i ≡ o → token_at 64 t i ≡ Some j
       → variable t within i ≡ variable_or t within d i
   unfolding variable variable_or

@@ -21,15 +21,16 @@ front_put front xs fits = rw (length-append, length-drop) (omega (arith, fits))
 
 pub front_zeros : (front xs : List ℤ) (used end : ℕ) → used ≤ end → length front ≤ end → length front ≤ length xs
     → IsZeroFrom used xs → IsZeroFrom end (front ++ drop (length front) xs)
-front_zeros front xs used end a b fits behind =
-    rw (front_put front xs fits, drop-append-drop (length front) xs front end b refl) (zeros_after end used xs a behind)
+front_zeros front xs used end a b fits following =
+    rw (front_put front xs fits, drop-append-drop (length front) xs front end b refl)
+    (zeros_after end used xs a following)
 
 pub all_put : (front xs : List ℤ) (end n : ℕ) → length front ≤ end → end ≤ n → length xs ≡ n
     → take end xs ≡ front ++ zeros (end - length front) → IsZeroFrom end xs → xs ≡ with_zeros n front
-all_put front xs end n longer within same put behind =
+all_put front xs end n longer within same put following =
     let all : end - length front + (n - end) ≡ n - length front = omega (arith, longer, within) in
     sym (take-append-drop end xs) ∙ ap (λ l. l ++ drop end xs) put
-    ∙ ap (λ l. (front ++ zeros (end - length front)) ++ l) (behind ∙ ap (λ k. zeros (k - end)) same)
+    ∙ ap (λ l. (front ++ zeros (end - length front)) ++ l) (following ∙ ap (λ k. zeros (k - end)) same)
     ∙ append_assoc front (zeros (end - length front)) (zeros (n - end))
     ∙ ap (λ l. front ++ l) (replicate-append-replicate (end - length front) (n - end) (pos 0) ∙ ap zeros all)
 

@@ -1,4 +1,4 @@
--- This file proves what a store of values that are 0 from some place on comes to.
+-- This file proves what becomes of values that are 0 from some place on.
 -- Main lemmas: `zeros_stored` and `zeros_copied`.
 use Rattle.std.specs.Prelude.{◌≡◌, ◌≤◌, ◌+◌, ◌-◌, ℕ, ℤ, List, pos, length, take, drop, replicate, ◌++◌, slice_set}
 use Rattle.std.proofs.Common.{arith}
@@ -10,11 +10,11 @@ pub zeros_after : (m n : ℕ) (xs : List ℤ) → n ≤ m → IsZeroFrom n xs �
 zeros_after m n xs within zeros =
     let at : n + (m - n) ≡ m = omega (arith, within) in
     let left : length xs - n - (m - n) ≡ length xs - m = omega (arith, within) in
-    let behind : drop (m - n) (drop n xs) ≡ replicate (length xs - n - (m - n)) (pos 0) =
+    let following : drop (m - n) (drop n xs) ≡ replicate (length xs - n - (m - n)) (pos 0) =
     rw zeros (drop-replicate (m - n) (length xs - n) (pos 0)) in
-    rw (drop-drop (m - n) n xs, at, left) at behind
+    rw (drop-drop (m - n) n xs, at, left) at following
 
--- a value that is stored in front of a place leaves what is behind it
+-- a value that is stored before a place leaves what is after it
 pub zeros_stored : (m n i : ℕ) (v : ℤ) (xs : List ℤ) → n ≤ m → i + 1 ≤ m → IsZeroFrom n xs
     → IsZeroFrom m (slice_set xs i v)
 zeros_stored m n i v xs within before zeros =

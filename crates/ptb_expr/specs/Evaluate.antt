@@ -36,7 +36,7 @@ expression_value c s = value c (item_of (expression_there s))
 abbrev pub variable_target : Cells → CursorState → Work Target
 variable_target c s = target_of c (item_of (variable_there s))
 
--- with the answers that were taken f comes to the result, whatever answers may follow
+-- with the answers that were taken f has the result, whatever answers may follow
 abbrev pub WorkComes : {V : Type 0} → (Pause → ℤ → Type 0) → Work V → Choices → Choices → Result V Stop → Type 0
 WorkComes refused f c d (Ok v) = Reaches f c d (success v)
 WorkComes refused f c d (Err (stops.Fault e)) = Reaches f c d (failure e)

@@ -13,7 +13,7 @@ use Rattle.ptb_words.specs.Words.{token_at, pair_at}
 abbrev pub of_byte : Operator → ℕ → List ℕ → ℕ → Option (Operator × ℕ)
 of_byte op c t i = option_map (λ j. (op, j)) (token_at c t i)
 
--- one of two bytes that stand together
+-- one of two adjacent bytes
 abbrev pub of_pair : Operator → ℕ → ℕ → List ℕ → ℕ → Option (Operator × ℕ)
 of_pair op c d t i = option_map (λ j. (op, j)) (pair_at c d t i)
 

@@ -33,7 +33,7 @@ abbrev pub item_of : {A : Type 0} → Reading A → A
 item_of (Whole x j) = x
 item_of (Malformed x) = x
 
--- goes on after a whole part; a malformed part spoils what it stands in
+-- continues after a whole part; a malformed part makes what it is in malformed
 abbrev pub after : {A B : Type 0} → Reading A → (A → B) → (A → ℕ → Reading B) → Reading B
 after (Whole x j) wrap next = next x j
 after (Malformed x) wrap next = Malformed (wrap x)
@@ -47,7 +47,7 @@ map_reading f r = after r f (λ x j. Whole (f x) j)
 
 -- ---- what leads where
 
--- what comes where something stands, and else
+-- what follows where something is there, and otherwise
 abbrev pub if_there : {A X : Type 0} → Option A → (A → X) → X → X
 if_there None f d = d
 if_there (Some x) f d = f x
@@ -71,11 +71,11 @@ if_function _ f g h d = d
 abbrev pub node_over : (Tree → ℕ → Tree) → ℕ → Reading Tree → Reading Tree
 node_over node m r = after r (λ x. node x m) (λ x k. Whole (node x k) k)
 
--- a part that must stand there and doesn't
+-- a part that must be there and isn't
 abbrev pub missing_part : ℕ → Reading Tree
 missing_part i = Malformed (Bad What i)
 
--- x and, as long as such an operator stands next, the operator and one more part; at most n of them
+-- x and, as long as such an operator is next, the operator and one more part; at most n of them
 unfoldable pub more : (ℕ → Option (Operator × ℕ)) → (ℕ → Reading Tree) → ℕ → Tree → ℕ → Reading Tree
 more operator part zero x j = Whole x j
 more operator part (suc n) x j =

@@ -29,7 +29,7 @@ pub data Part : Type 0 where
   Variable : Part
   Paren : Part
 
--- a node is marked at its end, behind any blanks there; reading stops at a malformed part
+-- a node is marked at its end, after any blanks there; reading stops at a malformed part
 pub data Spells (t : List ℕ) : Part → ℕ → Reading Tree → Type 0 where
   -- expr = sum [ comparison sum ]
   sum_alone : {i j : ℕ} {x : Tree} → Spells t Sum i (Whole x j) → comparison t j ≡ None → Spells t Expr i (Whole x j)

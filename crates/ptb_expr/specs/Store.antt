@@ -43,6 +43,6 @@ empty_cells size = record {
   elements = replicate (unsigned_abs size / 2 + 1) (pos 0);
 }
 
--- all values behind the first n are 0
+-- all values after the first n are 0
 abbrev pub IsZeroFrom : ℕ → List ℤ → Type 0
 IsZeroFrom n values = drop n values ≡ replicate (length values - n) (pos 0)

@@ -1,4 +1,4 @@
--- This file defines expressions as trees. A node is marked at its end, behind any blanks there.
+-- This file defines expressions as trees. A node is marked at its end, after any blanks there.
 --     Tree            an expression, or what is malformed in it
 --     questions x     how many RNDs a tree has
 use Rattle.std.specs.Prelude.{ℕ, ◌+◌, ℤ}
@@ -17,7 +17,7 @@ pub data Tree : Type 0 where
   -- a leading minus
   Neg : (x : Tree) (mark : ℕ) → Tree
   Bin : (op : Operator) (x y : Tree) (mark : ℕ) → Tree
-  -- a part that must stand there and doesn't, or a number that is too big
+  -- a part that must be there and isn't, or a number that is too big
   Bad : (kind : FaultKind) (mark : ℕ) → Tree
   -- a tree whose closing parenthesis is missing
   Unclosed : (x : Tree) (mark : ℕ) → Tree

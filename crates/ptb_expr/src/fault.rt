@@ -18,7 +18,7 @@ pub enum FaultKind {
 pub struct Fault {
     /// Which of the three faults it is.
     pub kind: FaultKind,
-    /// The place in the statement's text at which `?` is put: how many bytes stand before it.
+    /// The place in the statement's text at which `?` is put: how many bytes are before it.
     pub mark: usize,
 }
 

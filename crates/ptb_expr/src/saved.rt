@@ -97,7 +97,7 @@ impl SavedStore {
         }
     }
 
-    /// Takes the values of a store in place of its own.
+    /// Replaces its values with those of a store.
     ///
     /// # Errors
     ///
@@ -130,8 +130,8 @@ impl SavedStore {
 }
 
 impl Store {
-    /// Takes the values that were saved in place of its own. It takes no memory where both have the
-    /// same SIZE.
+    /// Replaces its values with those that were saved. It takes no memory where both have the same
+    /// SIZE.
     ///
     /// # Errors
     ///

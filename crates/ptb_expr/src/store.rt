@@ -25,7 +25,7 @@ pub struct Store {
     pub(crate) size: i16,
     pub(crate) values: [i16; 26],
     pub(crate) elements: Vec<i16>,
-    /// How many of the first elements a copy takes over: those behind them are 0.
+    /// How many of the first elements a copy takes over: those after them are 0.
     pub(crate) used: usize,
 }
 
@@ -103,8 +103,8 @@ impl Store {
         })
     }
 
-    /// Takes the values of another store in place of its own. It takes no memory where both have the
-    /// same SIZE.
+    /// Replaces its values with those of another store. It takes no memory where both have the same
+    /// SIZE.
     ///
     /// # Errors
     ///

@@ -1,4 +1,4 @@
--- This file names what a proof unfolds to compute what a program that is written out comes to.
+-- This file names what a proof unfolds to compute the result of a program that is written out.
 -- Main definition: `on_programs`.
 use Rattle.std.specs.Prelude.{⊤}
 use Rattle.std.specs.Fmt.{digits}

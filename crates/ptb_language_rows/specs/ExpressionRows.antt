@@ -48,10 +48,10 @@ pub record ValueRows : Type 0 where
   pub left_asked_first : worth (codes "RND(6)*RND(5)") [] ≡ Asks (pos 6) tt
   pub left_fault_first : worth (codes "1/0+32768") [] ≡ Done (Err (fault How 3)) []
   pub left_compared_first : worth (codes "RND(6)>RND(6)") (pos 2 ∷ pos 5 ∷ []) ≡ Done (Ok (pos 0)) []
-  -- what stands before a missing part is worked out first
+  -- what is before a missing part is worked out first
   pub asked_before_missing : worth (codes "RND(6)+") [] ≡ Asks (pos 6) tt
   pub asked_before_unclosed : worth (codes "(RND(6)") [] ≡ Asks (pos 6) tt
-  -- a mark stands behind the blanks
+  -- a mark is after the blanks
   pub mark_of_operator : worth (codes "1 / 0  +2") [] ≡ Done (Err (fault How 7)) []
   pub mark_of_function : worth (codes "RND ( 0 )  ") [] ≡ Done (Err (fault How 11)) []
   pub mark_of_missing : worth (codes "2 * ") [] ≡ Done (Err (fault What 4)) []

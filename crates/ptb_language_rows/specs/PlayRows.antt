@@ -29,7 +29,7 @@ pub record AnswerRows : Type 0 where
   pub bad_answer : shows 4096 (codes "10 P.RND(2)" ++ (10 ∷ [])) ([]) 10000 (pos 3 ∷ []) ≡ Some ([], BadAnswer)
   pub bound_of_0 : shows 4096 (codes "10 A=RND(2)-1;B=RND(A)" ++ (10 ∷ [])) ([]) 10000 (pos 1 ∷ []) ≡ Some
       (codes "HOW?" ++ (10 ∷ []) ++ codes "10 A=RND(2)-1;B=RND(A)?" ++ (10 ∷ []), How)
-  -- what stands before a missing part is worked out
+  -- what is before a missing part is worked out
   pub index_before_equals : shows 4096 (codes "10 @(RND(2))\n") ([]) 10000 ([]) ≡ Some ([], NoAnswer)
   pub first_value_before_to : shows 4096 (codes "10 F.I=RND(2)\n") ([]) 10000 ([]) ≡ Some ([], NoAnswer)
   pub roll_before_fault : shows 4096 (codes "10 P.RND(2)+1/0\n") ([]) 10000 (pos 2 ∷ []) ≡ Some
@@ -199,7 +199,7 @@ pub record FaultRows : Type 0 where
       (codes "WHAT?" ++ (10 ∷ []) ++ codes "10 P?" ++ (10 ∷ []), What)
   pub print_period : shows 4096 (codes "10 PRINT." ++ (10 ∷ [])) ([]) 10000 ([]) ≡ Some
       (codes "WHAT?" ++ (10 ∷ []) ++ codes "10 PRINT?." ++ (10 ∷ []), What)
-  -- a mark stands behind the blanks
+  -- a mark is after the blanks
   pub mark_after_blank : shows 4096 (codes "10 A=1/0 ;P.1\n") ([]) 10000 ([]) ≡ Some
       (codes "HOW?\n10 A=1/0 ?;P.1\n", How)
   pub blank_at_end : shows 4096 (codes "380 GOTO 412 \n") ([]) 10000 ([]) ≡ Some (codes "HOW?\n380 GOTO 412 ?\n", How)

@@ -48,7 +48,7 @@ pub record RunRows : Type 0 where
   -- answers are numbers, and not texts
   pub numbers : is_before (one 9) (one 10) ≡ true
   pub ten_after_nine : runs_left (worth (codes "RND(10)")) 1 [] (At (one 9)) None ≡ one 10 ∷ []
-  -- a list is before none that it begins, nor behind it
+  -- a list is before none that it begins, nor after it
   pub beginning_before : is_before (one 1) (two 1 1) ≡ false
   pub beginning_after : is_before (two 1 1) (one 1) ≡ false
 

@@ -1,8 +1,8 @@
-//! Worked rows of the language and of reports: what texts, words, expressions, plain runs, mistakes,
-//! trees of runs and samples come to, by the definitions.
+//! Worked rows of the language and of reports: the results of texts, words, expressions, plain
+//! runs, mistakes, trees of runs and samples, by the definitions.
 //!
-//! It stands on `ptb_explore` and the crates below it. No crate stands on it: neither a build of the
-//! program nor the trial of a planted bug computes its rows.
+//! It depends on `ptb_explore` and the crates below it. No crate depends on it: neither a build of
+//! the program nor the trial of a planted bug computes its rows.
 #![tactic(auto)]
 
 mod rows;

@@ -4,7 +4,7 @@ use crate::shared::{cursor_in_front, expect_same};
 use ptb_words::{Cursor, Letter, Number, Quoted, Table, Word, is_all_blank, number_in_front};
 use std::process::Abort;
 
-// A table, a text, the word that is found in front of it, and the place behind that.
+// A table, a text, the word that is found in front of it, and the place after that.
 const WORDS: &[(Table, &str, Option<Word>, usize)] = &[
     (Table::Commands, "NEXT I", Some(Word::NextKw), 5),
     (Table::Commands, "N.I", Some(Word::NextKw), 2),
@@ -95,7 +95,7 @@ fn finds_pairs(rt: HostRuntime) {
     }
 }
 
-// A text, the letter that is found in front of it, and the place behind that.
+// A text, the letter that is found in front of it, and the place after that.
 const LETTERS: &[(&str, Option<u8>, usize)] = &[
     ("A=1", Some(b'A'), 1),
     (" Z  (", Some(b'Z'), 4),
@@ -115,7 +115,7 @@ fn finds_letters(rt: HostRuntime) {
     }
 }
 
-// A text, the number that is found in front of it, and the place behind that.
+// A text, the number that is found in front of it, and the place after that.
 const NUMBERS: &[(&str, Number, usize)] = &[
     ("0", Number::Value(0), 1),
     (" 0012 ;", Number::Value(12), 6),
@@ -165,7 +165,7 @@ fn reads_two_hundred_digits(rt: HostRuntime) {
     }
 }
 
-// A text, the string that is found in front of it, and the place behind that.
+// A text, the string that is found in front of it, and the place after that.
 const STRINGS: &[(&str, Quoted, usize)] = &[
     ("\"HI\"", Quoted::Text(b"HI"), 4),
     ("'A\"B' ,", Quoted::Text(b"A\"B"), 6),
@@ -186,7 +186,7 @@ fn finds_strings(rt: HostRuntime) {
     }
 }
 
-// A byte, and how many letters stand before it, if it is one.
+// A byte, and how many letters are before it, if it is one.
 const BYTES: &[(u8, Option<usize>)] = &[
     (b'A', Some(0)),
     (b'I', Some(8)),
@@ -207,7 +207,7 @@ fn makes_letters(rt: HostRuntime) {
     expect_same(&rt, "A and B differ", differ, true);
 }
 
-// A place of the text `A  B`, whether it is the end, and the byte that stands next.
+// A place of the text `A  B`, whether it is the end, and the next byte.
 const PLACES: &[(usize, bool, Option<u8>)] = &[
     (3, false, Some(b'B')),
     (4, true, None),
@@ -234,9 +234,9 @@ fn looks_ahead(rt: HostRuntime) {
     let mut cursor = cursor_in_front(&rt, b" A  ");
     let before = (cursor.place(), cursor.at_end());
     expect_same(&rt, "before A", before, (0, false));
-    // only behind this is it known that there is a byte to take
+    // only after this is it known that there is a byte to take
     assert_eq!(rt; cursor.next_byte(), Some(b'A'));
     cursor.take_byte();
-    let behind = (cursor.next_byte(), cursor.place(), cursor.at_end());
-    expect_same(&rt, "behind A", behind, (None, 4, true));
+    let following = (cursor.next_byte(), cursor.place(), cursor.at_end());
+    expect_same(&rt, "after A", following, (None, 4, true));
 }

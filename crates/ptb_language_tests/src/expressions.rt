@@ -58,7 +58,7 @@ fn expect_worth(
     expect_same(rt, text, found, (wanted, left));
 }
 
-// A text, its value, and the place behind it.
+// A text, its value, and the place after it.
 const VALUES: &[(&str, i16, usize)] = &[
     ("7 <=  8", 1, 7),
     ("-32767-1", -32768, 8),
@@ -140,7 +140,7 @@ fn expressions(rt: HostRuntime) {
     }
 }
 
-// A text, the answers given, its value and the place behind it, or why there is none, and how many
+// A text, the answers given, its value and the place after it, or why there is none, and how many
 // answers are left.
 type Answered = (
     &'static str,
@@ -224,7 +224,7 @@ const FAULTY_QUESTIONS: &[(&str, &[i16], FaultKind, usize, usize)] = &[
     ("@(R.(6))", &[3], FaultKind::Sorry, 8, 0),
 ];
 
-// A question comes before what is wrong behind it, and after what is wrong in front.
+// A question comes before what is wrong after it, and after what is wrong before it.
 #[test]
 fn questions_in_order(rt: HostRuntime) {
     let store = make_store(&rt, rt.alloc());
@@ -642,7 +642,7 @@ fn seeded_faults(rt: HostRuntime) {
     expect_same(&rt, "R.(9)", found, wanted);
 }
 
-// An answer is the generator's and stands in the list then; one that is refused changes nothing.
+// An answer is the generator's and is in the list then; one that is refused changes nothing.
 fn expect_chosen(rt: &impl Abort, seeded: &mut Seeded, generator: &mut Lcg64Xsh32) {
     let given = seeded.asked().len();
     match seeded.choose(100) {

@@ -1,10 +1,10 @@
 //! Tests of texts and expressions of the language, over their public names: loading, entering and
-//! listing, the cursor, and what an expression comes to; of reports as they are written; and of the
+//! listing, the cursor, and the results of expressions; of reports as they are written; and of the
 //! buffer before a writer.
 //!
-//! It stands on `ptb_words`, `ptb_text`, `ptb_expr` and `ptb_report`, and on `rand_core` and
-//! `rand_pcg` for the words that a seed draws. No crate stands on it: a crate with tests is proved
-//! once more together with them, so these stand apart from what they test.
+//! It depends on `ptb_words`, `ptb_text`, `ptb_expr` and `ptb_report`, and on `rand_core` and
+//! `rand_pcg` for the words that a seed draws. No crate depends on it: a crate with tests is proved
+//! once more together with them, so these are kept apart from what they test.
 #![tactic(auto)]
 
 #[cfg(test)]

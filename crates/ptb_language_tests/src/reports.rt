@@ -56,7 +56,7 @@ fn write(room: &mut [u8], form: Form, run: Reported) -> Result<(), DeviceFault> 
     write_to(&mut ReportWriter::new(), room, form, run)
 }
 
-// Whether the room holds a text, and behind it nothing.
+// Whether the room holds a text, and nothing after it.
 fn holds(room: &[u8], text: &[u8]) -> bool {
     match room.strip_prefix(text) {
         Some(rest) => rest.iter().all(|b| *b == b'.'),
@@ -79,7 +79,7 @@ const REPORTS: &[(Form, Reported, &str)] = &[
     ),
 ];
 
-// A report is written where there is ample room, and nothing behind it.
+// A report is written where there is ample room, and nothing after it.
 #[test]
 fn reports_are_written(rt: HostRuntime) {
     for &(form, run, due) in REPORTS {
@@ -118,8 +118,8 @@ fn reports_without_room(rt: HostRuntime) {
 fn long_reports_are_written(rt: HostRuntime) {
     let mut room = [b'.'; 5100];
     let done = write(&mut room, Form::Two, LONG);
-    let (header, behind) = (&room[..21], &room[21..]);
-    let shown = behind.iter().take(5000).all(|b| *b == b'A');
+    let (header, following) = (&room[..21], &room[21..]);
+    let shown = following.iter().take(5000).all(|b| *b == b'A');
     let found = (done, header, shown, holds(&room[5021..], b"\n"));
     expect_same(
         &rt,

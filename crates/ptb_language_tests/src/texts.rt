@@ -140,13 +140,13 @@ fn around(
     before: &[u8],
     byte: u8,
     count: usize,
-    behind: &[u8],
+    following: &[u8],
 ) -> Result<Vec<u8>, AllocError> {
     let mut text = Vec::from_slice(alloc, before)?;
     for _ in 0..count {
         text.push(byte)?;
     }
-    text.extend_from_slice(behind)?;
+    text.extend_from_slice(following)?;
     Ok(text)
 }
 
@@ -202,7 +202,7 @@ fn texts_load_and_list(rt: HostRuntime) {
     }
 }
 
-// Passes whichever of its allocations is refused: the answer is want of memory, or the listing.
+// Passes whichever of its allocations is refused: the answer is lack of memory, or the listing.
 #[test]
 fn refused_growths_are_answered(rt: HostRuntime) {
     let text = b"20 P.2\n10 A=1\n20\n30 P.3\n";
@@ -214,13 +214,18 @@ fn refused_growths_are_answered(rt: HostRuntime) {
 fn enter_again(rt: &impl Abort, program: &mut Program, line: &[u8]) {
     let before = (program.len(), program.size());
     if program.enter(line) == Err(LoadFault::Memory) {
-        let behind = (program.len(), program.size());
+        let following = (program.len(), program.size());
         let again = program.enter(line);
-        expect_same(rt, "a line", (line, behind, again), (line, before, Ok(())));
+        expect_same(
+            rt,
+            "a line",
+            (line, following, again),
+            (line, before, Ok(())),
+        );
     }
 }
 
-// Lines behind which three statements stand.
+// Lines that result in three statements.
 const LINES_FOR_THREE: &[&[u8]] = &[b"20 P.2", b"10 A=1", b"30 P.3", b"20 P.22", b"40 P.", b"10"];
 
 // Passes whichever of its allocations is refused: the program stays as it was, and the line can be
@@ -312,8 +317,8 @@ fn refusal_of(alloc: Global, text: &[u8], memory: u16) -> Result<Option<Refusal>
 
 #[test]
 fn long_lines(rt: HostRuntime) {
-    for &(before, byte, count, behind, memory, refusal) in LONG_TEXTS {
-        let text = around(rt.alloc(), before, byte, count, behind).expect(&rt, "memory");
+    for &(before, byte, count, following, memory, refusal) in LONG_TEXTS {
+        let text = around(rt.alloc(), before, byte, count, following).expect(&rt, "memory");
         let found = refusal_of(rt.alloc(), &text, memory).expect(&rt, "memory");
         let wanted = (before, count, refusal);
         expect_same(&rt, "a refusal", (before, count, found), wanted);
@@ -493,7 +498,7 @@ const TEXTS_BY_INDEX: &[(usize, Option<(i16, &[u8])>)] = &[
     (2, None),
 ];
 
-const NUMBERS_BEHIND: &[(i16, Option<i16>)] = &[
+const NUMBERS_AFTER: &[(i16, Option<i16>)] = &[
     (-5, Some(10)),
     (0, Some(10)),
     (10, Some(20)),
@@ -509,7 +514,7 @@ fn lines_are_found_in_order(rt: HostRuntime) {
         expect_same(&rt, "at an index", found, (index, wanted));
     }
     expect_same(&rt, "first", program.first(), Some(10));
-    for &(number, next) in NUMBERS_BEHIND {
+    for &(number, next) in NUMBERS_AFTER {
         let found = (number, program.after(number));
         expect_same(&rt, "after a number", found, (number, next));
     }
@@ -528,7 +533,7 @@ fn has_texts(program: &Program, texts: &BTreeMap<i16, Vec<u8>>) -> bool {
     index == program.len()
 }
 
-// A text like no other: it begins with its count, and has dots behind it.
+// A text like no other: it begins with its count, and has dots after it.
 fn stamped(alloc: Global, count: u32, dots: usize) -> Result<Vec<u8>, AllocError> {
     let stamp = format!(in alloc; "A{count}")?;
     around(alloc, stamp.as_bytes(), b'.', dots, b"")

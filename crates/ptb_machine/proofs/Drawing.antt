@@ -30,13 +30,13 @@ drawn_first zero g f (k ∷ ts) (n ∷ bs) few asked e = let l = few [] n asked.
 drawn_first (suc most) g f (k ∷ ts) (n ∷ bs) few asked e =
     let first : k ≡ drawn_answer (pcg32 g).0 n = cc in
     let others : ts ≡ drawn_from (pcg32 g).1 bs = cc in
-    let behind = drawn_first most (pcg32 g).1 (λ a. f (k ∷ a)) ts bs (few_after f most k few) asked.1 others in
+    let following = drawn_first most (pcg32 g).1 (λ a. f (k ∷ a)) ts bs (few_after f most k few) asked.1 others in
     let answered : answers_by (suc most) g f ≡ drawn_answer (pcg32 g).0 n ∷ answers_by most (pcg32 g).1
     (λ a. f (drawn_answer (pcg32 g).0 n ∷ a)) =
     ap (to_question (λ n. drawn_answer (pcg32 g).0 n ∷ answers_by most (pcg32 g).1
     (λ a. f (drawn_answer (pcg32 g).0 n ∷ a)))) asked.0.1 in (
-      behind.0,
-      answered ∙ ap (λ x. x ∷ answers_by most (pcg32 g).1 (λ a. f (x ∷ a))) (sym first) ∙ ap (λ l. k ∷ l) behind.1,
+      following.0,
+      answered ∙ ap (λ x. x ∷ answers_by most (pcg32 g).1 (λ a. f (x ∷ a))) (sym first) ∙ ap (λ l. k ∷ l) following.1,
     )
 
 -- ---- a chooser by a seed

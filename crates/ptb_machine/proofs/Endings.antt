@@ -40,7 +40,7 @@ abbrev IsHaltOfRun : Option ℤ → Halt → Type 0
 IsHaltOfRun choose (Faults f) = Unit {0}
 IsHaltOfRun choose (Ends ending) = IsRunEnding choose ending
 
--- where it goes on, answers are taken in place of lines as before
+-- where it continues, answers are taken instead of lines as before
 abbrev HaltsLikeRun : {A : Type 0} → Option ℤ → Outcome (Progress A) State → Type 0
 HaltsLikeRun choose (Done (Goes x S) rest) = S.choose ≡ choose
 HaltsLikeRun choose (Done (Halts h S) rest) = IsHaltOfRun choose h
@@ -107,7 +107,7 @@ answer_ends n at = then_ends (work_action (λ _. random_number n 0)) _ (work_act
     (λ v. then_ends (show (signed_decimal v ++ newline)) (λ _. store at v) (change_ends _ (λ S. refl))
     (λ _. change_ends _ (λ S. refl)))
 
--- no line is left for want of an answer
+-- where no line is left, it ends or takes an answer
 without_ends : (bound : Option ℤ) (at : Target) (choose : Option ℤ) (S : State) (a : Answers) → bound ≡ choose
     → S.choose ≡ choose → HaltsLikeRun choose (without_line bound at S a)
 without_ends None at choose S a is e = sym is
@@ -182,7 +182,7 @@ for_ends : (e : ℕ) (loop : Loop) → EndsLikeRun (for_action e loop)
 for_ends e loop = then_ends (change (without_loop loop.letter)) (λ _. if_room e (with_loop loop))
     (change_ends _ (λ S. refl)) (λ _. if_room_ends e (with_loop loop) (λ S. refl))
 
--- a loop that goes on or ends leaves them as they were
+-- a loop that continues or ends leaves them as they were
 sum_keeps : (next : Place) (l : Loop) (ls : List Loop) (S : State) (r : Result ℤ FaultKind)
     → (after_sum next l ls r S).choose ≡ S.choose
 sum_keeps next l ls S (Err kind) = refl

@@ -99,16 +99,16 @@ module _ {R W : Type 0} (remaining : R → Option (List ℕ)) (counted failures 
     left_by = ends gives.same_borrow
 
     -- what is said of the run, whatever lines come after those that it was given
-    between : (answers : List (List ℕ) → Answers) → Goes answers → (behind : List (List ℕ))
-        → (NoneLeft (known_lines now) → behind ≡ [])
-        → IsRunBetween contents written p rules (lines ++ behind) (answers (lines ++ behind)) refuses w v result
-    between answers goes behind none =
-        run_between contents written p rules (lines ++ behind)
-        (answers (lines ++ behind)) refuses screen screen_later w v result writer writes
+    between : (answers : List (List ℕ) → Answers) → Goes answers → (following : List (List ℕ))
+        → (NoneLeft (known_lines now) → following ≡ [])
+        → IsRunBetween contents written p rules (lines ++ following) (answers (lines ++ following)) refuses w v result
+    between answers goes following none =
+        run_between contents written p rules (lines ++ following)
+        (answers (lines ++ following)) refuses screen screen_later w v result writer writes
         (led_run p rules answers refuses noticed c d (state_of contents written screen) (state_of contents written
         screen_later) (most_lines (line_input source)) (most_lines (line_input later)) lines
         (Refuses (line_input later).end) (known_lines now) ended goes ran (none_known now) refl
-        (fault_without_memory (line_input later).end) behind none)
+        (fault_without_memory (line_input later).end) following none)
 
     -- where the limit stopped it
     pub has_line : (end : RunEnd)
@@ -128,14 +128,14 @@ module _ {R W : Type 0} (remaining : R → Option (List ℕ)) (counted failures 
     }
 
     -- it took the lines that it was given
-    takes : (answers : List (List ℕ) → Answers) → Goes answers → (behind : List (List ℕ))
-        → (NoneLeft (known_lines now) → behind ≡ [])
-        → length lines ≤ lines_taken p (lines ++ behind) rules (answers (lines ++ behind))
-    takes answers goes behind none =
+    takes : (answers : List (List ℕ) → Answers) → Goes answers → (following : List (List ℕ))
+        → (NoneLeft (known_lines now) → following ≡ [])
+        → length lines ≤ lines_taken p (lines ++ following) rules (answers (lines ++ following))
+    takes answers goes following none =
         led_run_takes p rules answers refuses noticed c d (state_of contents written screen)
         (state_of contents written screen_later) (most_lines (line_input source)) (most_lines (line_input later)) lines
         (Refuses (line_input later).end) (known_lines now) ended goes ran (none_known now) refl
-        (fault_without_memory (line_input later).end) behind none
+        (fault_without_memory (line_input later).end) following none
 
     -- and asked for one more at most where it says so
     unmissed : UnlessMissed (Refuses (line_input later).end)
@@ -206,7 +206,7 @@ module _ {R W : Type 0} (remaining : R → Option (List ℕ)) (counted failures 
 
     -- it has come to one
     module _ (fault : ReadFault) (is : fault_at (line_input later).end ≡ Some fault) where
-      -- on the lines that it was given it ends for want of one, or would ask for an answer
+      -- on the lines that it was given it ends for lack of one, or would ask for an answer
       dry : (answers : List (List ℕ) → Answers) → Goes answers
           → IsUnreadBetween contents written p rules (lines ++ []) (answers (lines ++ [])) w v
       dry answers goes =

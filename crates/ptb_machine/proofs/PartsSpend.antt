@@ -43,7 +43,7 @@ line_value l c = value c (item_of (expression l 0))
 
 -- ---- parts
 
--- how often parts ask at most, but for the lines that they take
+-- how often parts ask at most, except for the lines that they take
 unfoldable pub parts_questions : List Part → ℕ
 parts_questions parts = sum_by part_questions parts
 
@@ -154,7 +154,7 @@ module _ (values : ValueLaws) where
     width_spends v m = work_action_spends (later again) 0 (λ _. or_fault (width_of v) m)
         (λ _. or_fault_reader (width_of v) m)
 
-    -- a part, and those behind it
+    -- a part, and those after it
     part_and : {A : Type 0} (part : Part) (parts : List Part) (m : Action A) (next : A → Action (List ℤ))
         → Spends (later again) m (part_questions part)
         → ((x : A) → Spends (later again) (next x) (parts_questions parts))

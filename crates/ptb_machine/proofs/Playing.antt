@@ -80,15 +80,15 @@ pub record IsUnreadRun (p : StoredProgram) (rules : Rules) (lines : List (List �
 -- a source of lines gave some, and these come after them; it says what holds after its refusals, and whether the
 -- chooser noted that it was refused memory
 module _ (p : StoredProgram) (rules : Rules) (a : Answers) (refuses : Pause → ℤ → Type 0) (noticed : Bool)
-    (c d : Choices) (old new : ScreenState) (could can : ℕ) (given behind : List (List ℕ)) (unread : ReadFault
+    (c d : Choices) (old new : ScreenState) (could can : ℕ) (given following : List (List ℕ)) (unread : ReadFault
     → Type 0) (left : Option (List (List ℕ)))
-    (led : (taken : Answers) (bounds : List ℤ) → Asked (play p (given ++ behind) rules) taken bounds
+    (led : (taken : Answers) (bounds : List ℤ) → Asked (play p (given ++ following) rules) taken bounds
     → d ≡ with_answers taken bounds c → IsLed refuses taken a) where
   abbrev refused : Refusal → Type 0
   refused = refused_by (noted noticed refuses) unread left
 
   abbrev lines : List (List ℕ)
-  lines = given ++ behind
+  lines = given ++ following
 
   abbrev before : Devices
   before = devices c old could rules.choose []
@@ -119,8 +119,9 @@ module _ (p : StoredProgram) (rules : Rules) (a : Answers) (refuses : Pause → 
       (h : Plays p rules lines before (with_failures failures later) x left)
       → play p lines rules a ≡ left (left_by failures x left h).rest
   play_is failures x left h =
-      let behind = left_by failures x left h in
-      ap (play p lines rules) behind.whole ∙ ap (λ (f : Answers → Outcome Finish (List ℕ)). f behind.rest) h.leaves.rest
+      let following = left_by failures x left h in
+      ap (play p lines rules) following.whole
+      ∙ ap (λ (f : Answers → Outcome Finish (List ℕ)). f following.rest) h.leaves.rest
 
   shows_run : (x : Exchange) (left : Answers → Outcome Finish (List ℕ)) (e : Ending) (o : Outcome Finish (List ℕ))
       (h : Plays p rules lines before later x left)
@@ -138,7 +139,7 @@ module _ (p : StoredProgram) (rules : Rules) (a : Answers) (refuses : Pause → 
   finished e h = is_ok e h.plays (shows_run h.exchange _ e _ h.plays refl refl)
 
   -- INPUT found no line left, so all of them were given
-  dry : (NoneLeft left → behind ≡ []) → RunComes refused p rules behind before later (Ok endings.NoInput)
+  dry : (NoneLeft left → following ≡ []) → RunComes refused p rules following before later (Ok endings.NoInput)
       → IsPlainRun p rules lines a refuses old new (Ok endings.NoInput)
   dry none h =
       let all : lines ≡ given = ap (λ r. given ++ r) (none h.0) ∙ append-nil given in
@@ -179,7 +180,7 @@ module _ (p : StoredProgram) (rules : Rules) (a : Answers) (refuses : Pause → 
         is_ok endings.NoAnswer h.plays
         (shows_run h.exchange h.left endings.NoAnswer _ h.plays (ap h.left none ∙ h.question.asks) refl)
     by_refusal true r =
-        let behind = left_by new.failures h.exchange h.left h.plays in
+        let following = left_by new.failures h.exchange h.left h.plays in
         record {
           same_borrow = h.plays.exchanges.shows.same_borrow;
           ok = tt;
@@ -189,8 +190,8 @@ module _ (p : StoredProgram) (rules : Rules) (a : Answers) (refuses : Pause → 
             (h.bound, r),
             record {
               drawn = h.exchange.answers;
-              rest = behind.rest;
-              all_are = behind.whole;
+              rest = following.rest;
+              all_are = following.whole;
               shows = shows_question new.failures h.bound h.exchange h.left h.plays h.question.asks;
             },
           );
@@ -215,7 +216,7 @@ module _ (p : StoredProgram) (rules : Rules) (a : Answers) (refuses : Pause → 
       plain_bytes (play p lines rules a) ∙ ap played_bytes (play_is old.failures h.exchange h.left h.plays) in
       takes_beginning old.shown new.shown h.exchange.bytes _ h.plays.exchanges.shows.shown (begins.0, all ∙ begins.1)
 
-  unwritten : RunComes refused p rules behind before later (Err runs.Write)
+  unwritten : RunComes refused p rules following before later (Err runs.Write)
       → IsPlainRun p rules lines a refuses old new (Err runs.Write)
   unwritten h = record {
     same_borrow = h.plays.exchanges.shows.same_borrow;
@@ -227,7 +228,7 @@ module _ (p : StoredProgram) (rules : Rules) (a : Answers) (refuses : Pause → 
     unspent = λ f. cc;
   }
 
-  not_read : RunComes refused p rules behind before later (Err runs.Read)
+  not_read : RunComes refused p rules following before later (Err runs.Read)
       → IsPlainRun p rules lines a refuses old new (Err runs.Read)
   not_read h = record {
     same_borrow = h.plays.exchanges.shows.same_borrow;
@@ -242,7 +243,7 @@ module _ (p : StoredProgram) (rules : Rules) (a : Answers) (refuses : Pause → 
   -- a source without memory and a screen over a writer take none, and the chooser notes its refusals: it was refused
   -- to the machine itself
   out_of_memory : old.takes_memory ≡ false → (unread reads.Memory → ⊥)
-      → RunComes refused p rules behind before later (Err runs.Memory) → later ≡ before
+      → RunComes refused p rules following before later (Err runs.Memory) → later ≡ before
   out_of_memory e no_memory h =
       elim h [
         | inl same ↦ same
@@ -269,8 +270,8 @@ module _ (p : StoredProgram) (rules : Rules) (a : Answers) (refuses : Pause → 
   -- the play with all of the answers stops where the run did
   pub stops_at : (line : Option ℕ) → StopsAt p rules lines before later line → line ≡ stopping_line p lines rules a
   stops_at line h =
-      let behind = left_by new.failures h.exchange h.left h.plays in
-      h.stops behind.rest ∙ ap (stopping_line p lines rules) (sym behind.whole)
+      let following = left_by new.failures h.exchange h.left h.plays in
+      h.stops following.rest ∙ ap (stopping_line p lines rules) (sym following.whole)
 
   -- ---- the lines that it takes
 
@@ -292,36 +293,36 @@ module _ (p : StoredProgram) (rules : Rules) (a : Answers) (refuses : Pause → 
 
   fits_finished : (e : Ending) → IsFinished refused p rules lines before later e
       → length given ≤ lines_taken p lines rules a
-  fits_finished e h = let behind = left_by new.failures h.exchange _ h.plays in
-      fits h.exchange behind.rest [] behind.whole (h.lines behind.rest)
+  fits_finished e h = let following = left_by new.failures h.exchange _ h.plays in
+      fits h.exchange following.rest [] following.whole (h.lines following.rest)
 
   fits_unanswered : (z : Pause) → IsUnanswered refused p rules lines before later z
       → length given ≤ lines_taken p lines rules a
   fits_unanswered z h =
-      let behind = left_by new.failures h.exchange h.left h.plays in
-      let taken = h.continues.more_lines behind.rest in
-      fits h.exchange behind.rest taken.0 behind.whole taken.1
+      let following = left_by new.failures h.exchange h.left h.plays in
+      let taken = h.continues.more_lines following.rest in
+      fits h.exchange following.rest taken.0 following.whole taken.1
 
   fits_unfinished : (e : Breakage) → IsUnfinished refused p rules lines before later e
       → length given ≤ lines_taken p lines rules a
   fits_unfinished e h =
-      let behind = left_by old.failures h.exchange h.left h.plays in
-      let taken = h.continues.more_lines behind.rest in
-      fits h.exchange behind.rest taken.0 behind.whole taken.1
+      let following = left_by old.failures h.exchange h.left h.plays in
+      let taken = h.continues.more_lines following.rest in
+      fits h.exchange following.rest taken.0 following.whole taken.1
 
   fits_none : later ≡ before → length given ≤ lines_taken p lines rules a
   fits_none e = omega (arith, ap (λ (d : Devices). length d.given) e)
 
-  fits_dry : (NoneLeft left → behind ≡ []) → RunComes refused p rules behind before later (Ok endings.NoInput)
+  fits_dry : (NoneLeft left → following ≡ []) → RunComes refused p rules following before later (Ok endings.NoInput)
       → length given ≤ lines_taken p lines rules a
   fits_dry none h =
       let all : lines ≡ given = ap (λ r. given ++ r) (none h.0) ∙ append-nil given in
       fits_finished endings.NoInput
       (subst (λ i. IsFinished refused p rules i before later endings.NoInput) (sym all) (h.1 (none h.0)))
 
-  pub takes_given : old.takes_memory ≡ false → (unread reads.Memory → ⊥) → (NoneLeft left → behind ≡ [])
+  pub takes_given : old.takes_memory ≡ false → (unread reads.Memory → ⊥) → (NoneLeft left → following ≡ [])
       → (result : Result Ending RunFault)
-      → RunComes refused p rules behind before later result → length given ≤ lines_taken p lines rules a
+      → RunComes refused p rules following before later result → length given ≤ lines_taken p lines rules a
   takes_given e no_memory none (Ok endings.End) h = fits_finished endings.End h
   takes_given e no_memory none (Ok endings.Stop) h = fits_finished endings.Stop h
   takes_given e no_memory none (Ok endings.What) h = fits_finished endings.What h
@@ -336,13 +337,13 @@ module _ (p : StoredProgram) (rules : Rules) (a : Answers) (refuses : Pause → 
   takes_given e no_memory none (Err runs.Write) h = fits_unfinished errors.Write h
   takes_given e no_memory none (Err runs.Spent) h = absurd h
 
-  -- where it asked for a line that it wasn't given, and these are all lines, it ends for want of it, or would ask for
+  -- where it asked for a line that it wasn't given, and these are all lines, it ends for lack of it, or would ask for
   -- an answer
   unread_shows : {e : Ending} → IsPlainRun p rules lines a refuses old new (Ok e)
       → ShowsUnread rules.choose (plain p lines rules) a old.shown new.shown → IsUnreadRun p rules lines a old new
   unread_shows run shows = record { same_borrow = run.same_borrow; shows = shows; unfailed = run.unfailed (λ f. cc) }
 
-  -- an ending for want of a line
+  -- an ending for lack of a line
   lacks_line : (choose : Option ℤ) → rules.choose ≡ choose
       → IsFinished refused p rules lines before later endings.NoInput
       → IsPlainRun p rules lines a refuses old new (Ok endings.NoInput)
@@ -374,9 +375,9 @@ module _ (p : StoredProgram) (rules : Rules) (a : Answers) (refuses : Pause → 
     unfailed = h.broken.1;
   }
 
-  pub ends_dry : (P : Type 0) → (P → ⊥) → (unread reads.Memory → ⊥) → behind ≡ [] → (result : Result Ending RunFault)
+  pub ends_dry : (P : Type 0) → (P → ⊥) → (unread reads.Memory → ⊥) → following ≡ [] → (result : Result Ending RunFault)
       → UnlessMissed unread P (run_miss result)
-      → RunComes refused p rules behind before later result → IsUnreadRun p rules lines a old new
+      → RunComes refused p rules following before later result → IsUnreadRun p rules lines a old new
   ends_dry P never no_memory none (Ok endings.End) m h = absurd (never m)
   ends_dry P never no_memory none (Ok endings.Stop) m h = absurd (never m)
   ends_dry P never no_memory none (Ok endings.What) m h = absurd (never m)
@@ -395,9 +396,9 @@ module _ (p : StoredProgram) (rules : Rules) (a : Answers) (refuses : Pause → 
   ends_dry P never no_memory none (Err runs.Write) m h = absurd (never m)
   ends_dry P never no_memory none (Err runs.Spent) m h = absurd h
 
-  pub run_comes : old.takes_memory ≡ false → (unread reads.Memory → ⊥) → (NoneLeft left → behind ≡ [])
+  pub run_comes : old.takes_memory ≡ false → (unread reads.Memory → ⊥) → (NoneLeft left → following ≡ [])
       → (result : Result Ending RunFault)
-      → RunComes refused p rules behind before later result
+      → RunComes refused p rules following before later result
       → IsPlainRun p rules lines a refuses old new (noted_result noticed result)
   run_comes e no_memory none (Ok endings.End) h = finished endings.End h
   run_comes e no_memory none (Ok endings.Stop) h = finished endings.Stop h
@@ -420,19 +421,21 @@ module _ (p : StoredProgram) (rules : Rules) (answers : List (List ℕ) → Answ
     (result : Result Ending RunFault) (goes : GoesBy refuses c d answers p rules)
     (h : Runs (refused_by (noted noticed refuses) unread left) p rules (devices c old could rules.choose [])
     (devices d new can rules.choose given) result) (over : can ≡ 0 → NoneLeft left) where
-  pub led_run : old.takes_memory ≡ false → (unread reads.Memory → ⊥) → (behind : List (List ℕ))
-      → (NoneLeft left → behind ≡ [])
-      → IsPlainRun p rules (given ++ behind) (answers (given ++ behind)) refuses old new (noted_result noticed result)
-  led_run no_room no_memory behind none =
-      run_comes p rules (answers (given ++ behind)) refuses noticed c d old new could can given behind unread left
-      (goes (given ++ behind)) no_room no_memory none result (h behind (λ e. none (over e)))
+  pub led_run : old.takes_memory ≡ false → (unread reads.Memory → ⊥) → (following : List (List ℕ))
+      → (NoneLeft left → following ≡ [])
+      → IsPlainRun p rules (given ++ following) (answers (given ++ following)) refuses old new
+      (noted_result noticed result)
+  led_run no_room no_memory following none =
+      run_comes p rules (answers (given ++ following)) refuses noticed c d old new could can given following unread left
+      (goes (given ++ following)) no_room no_memory none result (h following (λ e. none (over e)))
 
-  pub led_run_takes : old.takes_memory ≡ false → (unread reads.Memory → ⊥) → (behind : List (List ℕ))
-      → (NoneLeft left → behind ≡ [])
-      → length given ≤ lines_taken p (given ++ behind) rules (answers (given ++ behind))
-  led_run_takes no_room no_memory behind none =
-      takes_given p rules (answers (given ++ behind)) refuses noticed c d old new could can given behind unread left
-      (goes (given ++ behind)) no_room no_memory none result (h behind (λ e. none (over e)))
+  pub led_run_takes : old.takes_memory ≡ false → (unread reads.Memory → ⊥) → (following : List (List ℕ))
+      → (NoneLeft left → following ≡ [])
+      → length given ≤ lines_taken p (given ++ following) rules (answers (given ++ following))
+  led_run_takes no_room no_memory following none =
+      takes_given p rules (answers (given ++ following)) refuses noticed c d old new could can given following unread
+      left
+      (goes (given ++ following)) no_room no_memory none result (h following (λ e. none (over e)))
 
   pub led_run_dry : (unread reads.Memory → ⊥) → (P : Type 0) → (P → ⊥) → UnlessMissed unread P (run_miss result)
       → IsUnreadRun p rules (given ++ []) (answers (given ++ [])) old new
@@ -447,11 +450,11 @@ module _ (p : StoredProgram) (rules : Rules) (answers : List (List ℕ) → Answ
     (goes : GoesBy refuses c d answers p rules) (over : can ≡ 0 → NoneLeft left)
     (end : RunEnd) (h : IsLineOf p rules (devices c old could rules.choose [])
     (devices d new can rules.choose given) end) where
-  pub led_line : end.ending ≡ endings.Limit → (behind : List (List ℕ)) → (NoneLeft left → behind ≡ [])
-      → end.line ≡ stopping_line p (given ++ behind) rules (answers (given ++ behind))
-  led_line is behind none =
-      stops_at p rules (answers (given ++ behind)) refuses noticed c d old new could can given behind unread left
-      (goes (given ++ behind)) end.line (h.at_limit is behind (λ e. none (over e)))
+  pub led_line : end.ending ≡ endings.Limit → (following : List (List ℕ)) → (NoneLeft left → following ≡ [])
+      → end.line ≡ stopping_line p (given ++ following) rules (answers (given ++ following))
+  led_line is following none =
+      stops_at p rules (answers (given ++ following)) refuses noticed c d old new could can given following unread left
+      (goes (given ++ following)) end.line (h.at_limit is following (λ e. none (over e)))
 
 -- ---- the screen of a writer
 

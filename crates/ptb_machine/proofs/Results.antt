@@ -75,7 +75,7 @@ result_over o n number text (Err stops.Memory) r is = ap is_over is.is
 result_over o n number text (Err stops.Unread) r is = ap is_over is.is
 result_over o n number text (Err stops.Unwritten) r is = ap is_over is.is
 
--- it goes on where the command was done
+-- it continues where the command was done
 pub result_goes : (o n : Trace) (number : ℕ) (text : List ℕ) (done : Result (Unit {0}) Stop)
     (r : Result (Option Ending) RunFault)
     → IsResultOf o n number text done r → (r ≡ Ok None ↔ is_err done ≡ false)

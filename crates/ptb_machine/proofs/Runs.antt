@@ -1,4 +1,4 @@
--- This file proves what a run comes to: its steps, one after the other.
+-- This file proves the result of a run: its steps, one after the other.
 -- Main lemmas: `run_over` and `run_on`.
 use Rattle.std.proofs.Common.{◌≡◌, inr, ℕ, zero, suc, ◌+◌, ◌-◌, ◌<◌, ◌≤◌, length, Bool, true, false}
 use Rattle.std.proofs.Common.{List, [], ◌++◌, Option, Some, None, IfSome, Result, Ok, Err, ℤ, pos}
@@ -115,7 +115,7 @@ run_then p rules m n o d e input left rest g h s = record {
 
 -- ---- plays
 
--- as it is told
+-- as it is reported
 abbrev pub told : Outcome Last State → Outcome Finish (List ℕ)
 told u = map_outcome (λ f. f) (λ (T : State). T.shown) (map_outcome finish_of (λ (T : State). T) u)
 
@@ -136,7 +136,7 @@ plays_as : (p : StoredProgram) (rules : Rules) (input : List (List ℕ)) (o d : 
     → f ≡ g → Plays p rules input o d x f → Plays p rules input o d x g
 plays_as p rules input o d x f g e h = record { exchanges = h.exchanges; leaves = leaves_to g e h.leaves }
 
--- the lines that are left behind those that were given are those of the last state
+-- the lines that are left after those that were given are those of the last state
 lines_are : (p : StoredProgram) (rules : Rules) (m : Configuration) (o d : Devices) (input rest : List (List ℕ))
     (g : State → Answers → Outcome Last State) (h : RunsTo p rules m o input rest d g)
     → input ≡ d.given ++ rest → (later : Answers) → (last_state (g h.leads.state later)).lines ≡ h.leads.state.lines
@@ -271,7 +271,7 @@ module _ (refused : Refusal → Type 0) (p : StoredProgram) (rules : Rules) (m n
     choose = chosen b;
   }
 
-  -- the run goes on
+  -- the run continues
   pub run_on : Steps refused p rules.limit m n (record d { given = [] }) e (Ok None) → HasRun p rules n o (onto d e)
   run_on s input rest f k =
       let b = before input rest f k in

@@ -1,4 +1,4 @@
--- This file proves what a plain run took of its input, from how a source of its lines went on.
+-- This file proves what a plain run took of its input, from how a source of its lines continued.
 -- Main lemma: `reads_for`.
 use Rattle.std.proofs.Common.{◌≡◌, ℕ, ◌+◌, ◌-◌, ◌≤◌, ◌<◌, ◌⊎◌, inl, inr, Bool, true, false, nat_lt}
 use Rattle.std.proofs.Common.{◌==◌, List, [], ◌∷◌, ◌++◌, length, take, drop, Option, Some, None}
@@ -46,7 +46,7 @@ abbrev pub fresh : Option (List ℕ) → ℕ → ℕ → InputNow
 fresh known x f = record { state = fresh_input; bytes = known; given = x; failures = f }
 
 -- the lines of an input that come after those that were given
-pub record IsBehind (c : List ℕ) (given : List (List ℕ)) (n : InputNow) : Type 0 where
+pub record IsAfter (c : List ℕ) (given : List (List ℕ)) (n : InputNow) : Type 0 where
   pub rest : List (List ℕ)
   pub whole : input_lines c ≡ given ++ rest
   pub none : NoneLeft (known_lines n) → rest ≡ []
@@ -73,7 +73,7 @@ module _ (wanted : ℕ) (c : List ℕ) (x f : ℕ) (n : InputNow) (given : List 
   none_left h = subst (λ b. NoneLeft (option_map (lines_left n.state) b)) known.is h
 
   -- all of it may be read
-  short : length c < 16777217 → IsBehind c given n
+  short : length c < 16777217 → IsAfter c given n
   short fits =
       let within : nat_lt (length c) 16777217 ≡ true = lt-ltb (length c) 16777217 fits in
       let all : take 16777216 c ≡ c = take_all 16777216 c (omega (arith, fits)) in
@@ -105,21 +105,21 @@ module _ (wanted : ℕ) (c : List ℕ) (x f : ℕ) (n : InputNow) (given : List 
     cut : whole_lines None front ≡ given ++ waiting
     cut = (on.cut going).0
 
-    abbrev behind : List (List ℕ)
-    behind = whole_lines (last_piece None front) (drop 16777216 taken ++ known.bytes)
+    abbrev following : List (List ℕ)
+    following = whole_lines (last_piece None front) (drop 16777216 taken ++ known.bytes)
 
     all_bytes : c ≡ front ++ (drop 16777216 taken ++ known.bytes)
     all_bytes =
         split ∙ ap (λ l. l ++ known.bytes) (sym (take-append-drop 16777216 taken))
         ∙ append_assoc front (drop 16777216 taken) known.bytes
 
-    whole : input_lines c ≡ given ++ (waiting ++ (behind ++ last_line (last_piece None c)))
+    whole : input_lines c ≡ given ++ (waiting ++ (following ++ last_line (last_piece None c)))
     whole =
         input_lines-cut c
         ∙ ap (λ l. l ++ last_line (last_piece None c)) (ap (whole_lines None) all_bytes
-        ∙ whole_lines-append None front (drop 16777216 taken ++ known.bytes) ∙ ap (λ l. l ++ behind) cut)
-        ∙ append_assoc (given ++ waiting) behind (last_line (last_piece None c))
-        ∙ append_assoc given waiting (behind ++ last_line (last_piece None c))
+        ∙ whole_lines-append None front (drop 16777216 taken ++ known.bytes) ∙ ap (λ l. l ++ following) cut)
+        ∙ append_assoc (given ++ waiting) following (last_line (last_piece None c))
+        ∙ append_assoc given waiting (following ++ last_line (last_piece None c))
 
     -- the line that is cut off is never given
     left_over : NoneLeft (known_lines n) → ⊥
@@ -147,18 +147,18 @@ module _ (wanted : ℕ) (c : List ℕ) (x f : ℕ) (n : InputNow) (given : List 
           length-append given waiting,
         )
 
-    long : IsBehind c given n
+    long : IsAfter c given n
     long = record {
-      rest = waiting ++ (behind ++ last_line (last_piece None c));
+      rest = waiting ++ (following ++ last_line (last_piece None c));
       whole = whole;
       none = λ h. absurd (left_over h);
     }
 
-  by_length : (t : Bool) → nat_lt (length c) 16777217 ≡ t → IsBehind c given n
+  by_length : (t : Bool) → nat_lt (length c) 16777217 ≡ t → IsAfter c given n
   by_length true e = short (ltb-true (length c) 16777217 e)
   by_length false e = long (ltb-false (length c) 16777217 e)
 
-  pub lines_after : IsBehind c given n
+  pub lines_after : IsAfter c given n
   lines_after = by_length (nat_lt (length c) 16777217) refl
 
 -- ---- faults
@@ -178,7 +178,7 @@ unfailed_end end h e = absurd (let clash : Some reads.Read ≡ None = sym (ap fa
 within_end : (end : InputEnd) → fault_at end ≡ None → end ≡ Exceeded → ⊥
 within_end end h e = absurd (let clash : Some reads.TooLong ≡ None = sym (ap fault_at e) ∙ h in cc)
 
--- no fault is want of memory
+-- no fault is lack of memory
 pub fault_without_memory : (end : InputEnd) → fault_at end ≡ Some reads.Memory → ⊥
 fault_without_memory Open e = absurd cc
 fault_without_memory Ended e = absurd cc
@@ -345,15 +345,15 @@ fault_missed a (Some n) fault e (inr none) = by_end a.end e (omega (arith, none)
 -- the answers by which a run goes may hang on its lines
 module _ (p : StoredProgram) (rules : Rules) (a : List (List ℕ) → Answers) (wanted x f : ℕ) (n : InputNow)
     (given : List (List ℕ))
-    (takes : (behind : List (List ℕ)) → (NoneLeft (known_lines n) → behind ≡ [])
-    → length given ≤ lines_taken p (given ++ behind) rules (a (given ++ behind)))
+    (takes : (following : List (List ℕ)) → (NoneLeft (known_lines n) → following ≡ [])
+    → length given ≤ lines_taken p (given ++ following) rules (a (given ++ following)))
     (result : Result Ending RunFault) (within : WantsWithin rules result wanted (most_lines n.state)) where
   pub reads_for : (known : Option (List ℕ)) (on : ReadsOn wanted (fresh known x f) given n)
       → IfSome known (λ c. ReadsFor on.taken (lines_wanted rules.choose (length (input_lines c))
       (lines_taken p (input_lines c) rules (a (input_lines c))) result))
   reads_for None on = tt
   reads_for (Some c) on = by_ahead on.ahead where
-    b : IsBehind c given n
+    b : IsAfter c given n
     b = lines_after wanted c x f n given on
 
     few : length given ≤ lines_taken p (input_lines c) rules (a (input_lines c))
@@ -403,8 +403,8 @@ taken_by remaining counted failures s t given i state reader gives =
 module _ {W : Type 0} (contents : W → Option (List ℕ)) (written : W → ℕ) (p : StoredProgram) (rules : Rules)
     (a : List (List ℕ) → Answers) (refuses : Pause → ℤ → Type 0) (w v : W) (ended : Result Ending RunFault)
     (wanted x f : ℕ) (n : InputNow) (given : List (List ℕ))
-    (between : (behind : List (List ℕ)) → (NoneLeft (known_lines n) → behind ≡ [])
-    → IsRunBetween contents written p rules (given ++ behind) (a (given ++ behind)) refuses w v ended) where
+    (between : (following : List (List ℕ)) → (NoneLeft (known_lines n) → following ≡ [])
+    → IsRunBetween contents written p rules (given ++ following) (a (given ++ following)) refuses w v ended) where
   -- by the bytes of the input, where they are known
   pub shows_input : (known : Option (List ℕ)) → ReadsOn wanted (fresh known x f) given n
       → IfOk ended (λ e. IfSome known (λ c. ShowsRun (plain p (input_lines c) rules (a (input_lines c))) (contents w)
@@ -441,14 +441,14 @@ module _ {W : Type 0} (contents : W → Option (List ℕ)) (written : W → ℕ)
 
 -- what holds of the lines that were given, whatever lines come after them, holds of those of the input
 pub of_input : (P : List (List ℕ) → Type 0) (wanted x f : ℕ) (n : InputNow) (given : List (List ℕ))
-    → ((behind : List (List ℕ)) → (NoneLeft (known_lines n) → behind ≡ []) → P (given ++ behind))
+    → ((following : List (List ℕ)) → (NoneLeft (known_lines n) → following ≡ []) → P (given ++ following))
     → (known : Option (List ℕ)) → ReadsOn wanted (fresh known x f) given n → IfSome known (λ c. P (input_lines c))
 of_input P wanted x f n given each None on = tt
 of_input P wanted x f n given each (Some c) on =
     let b = lines_after wanted c x f n given on in
     subst P (sym b.whole) (each b.rest b.none)
 
--- on the lines that came complete, where a fault has come, it ends for want of a line, or would ask for an answer
+-- on the lines that came complete, where a fault has come, it ends for lack of a line, or would ask for an answer
 pub shows_come : {W : Type 0} (contents : W → Option (List ℕ)) (written : W → ℕ) (p : StoredProgram) (rules : Rules)
     (a : List (List ℕ) → Answers) (w v : W) (wanted x f : ℕ) (n : InputNow) (given : List (List ℕ))
     (known : Option (List ℕ)) (on : ReadsOn wanted (fresh known x f) given n) (fault : ReadFault)

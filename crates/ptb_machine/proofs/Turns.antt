@@ -47,7 +47,7 @@ pub turn_change : (p : StoredProgram) (limit : ℕ) (S : State) (a : Answers)
 unfolding turn
 turn_change p limit S a = by_change p limit (next_command p.lines S.place) S a
 
--- a turn that goes on is a step below the limit
+-- a turn that continues is a step below the limit
 unless_goes : (p : StoredProgram) (limit : ℕ) (r : Place × Command) (S T : State) (a rest : Answers) (b : Bool)
     → leb limit S.steps ≡ b → act_unless p r b S a ≡ Done (Next T) rest → (S.steps < limit) × (T.steps ≡ S.steps + 1)
 unless_goes p limit r S T a rest true h e = absurd cc
@@ -69,7 +69,7 @@ turn_goes p limit S T a rest e = by_goes p limit (next_command p.lines S.place) 
 
 -- ---- runs
 
--- two ways to go on agree after a turn if they agree where it goes on
+-- two ways to continue agree after a turn if they agree where it continues
 go_on_same : (f g : State → Answers → Outcome Last State) (o : Outcome StepResult State)
     → ((T : State) (rest : Answers) → o ≡ Done (Next T) rest → f T rest ≡ g T rest)
     → go_on o (after_turn f) ≡ go_on o (after_turn g)
@@ -103,7 +103,7 @@ all_by_turn p limit S a =
     (λ T rest e. let g = turn_goes p limit S T a rest e in turns_within_same (limit - S.steps)
     (suc (limit - T.steps)) p limit T rest (omega (arith, g.0, g.1)) (omega arith))
 
--- the same as it is told
+-- the same as it is reported
 told_after : (p : StoredProgram) (limit : ℕ) (o : Outcome StepResult State)
     → map_outcome finish_of (λ (T : State). T) (go_on o (after_turn (all_turns p limit)))
     ≡ go_on o (after_step_result (turns p limit))

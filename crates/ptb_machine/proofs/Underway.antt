@@ -87,7 +87,7 @@ module _ {C S L : Type 0} (chooser : choosers.Ghosts C) (screen : screens.Ghosts
         (λ h. not_missed_then rules.choose _ _ _ (source.most now.source) (source.most last.source)
         (omega (arith, falls)) u.missed h) (step_miss r) turn.missed)
 
-    -- the run goes on
+    -- the run continues
     pub underway_on : r ≡ Ok None → IsUnderway chooser screen source p rules n first last
     underway_on e = record {
       given = u.given ++ turn.given;

@@ -9,8 +9,8 @@ use Rattle.ptb_command.specs.declared.ending.Ending.TheVariants as endings
 use Rattle.ptb_answers.specs.declared.rules.Rules.{Rules}
 use Rattle.ptb_machine.specs.Play.{Finish, play}
 
--- all but those of a plain run that has no answer, or a bad one; and for want of a line only where no answers stand
--- in place of lines
+-- all but those of a plain run that has no answer, or a bad one; and for lack of a line only where no answers are taken
+-- instead of lines
 abbrev pub IsRunEnding : Option ℤ → Ending → Type 0
 IsRunEnding choose endings.NoAnswer = ⊥
 IsRunEnding choose endings.BadAnswer = ⊥

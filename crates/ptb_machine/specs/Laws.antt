@@ -1,6 +1,6 @@
 -- This file states the laws of actions and runs.
 --     EffectLaws       what actions, commands, turns and runs may change
---     RunLaws          how a run goes on
+--     RunLaws          how a run continues
 use Rattle.std.specs.Prelude.{◌≡◌, ℕ, ◌+◌, ◌-◌, ◌<◌, ◌≤◌, List, Option, ℤ}
 use Rattle.ptb_words.specs.declared.word.Word.{Word}
 use Rattle.ptb_text.specs.Statements.{Statements, StoredProgram}
@@ -51,7 +51,7 @@ pub record EffectLaws : Type 0 where
 -- ---- runs
 
 pub record RunLaws : Type 0 where
-  -- a turn that goes on is a step below the limit
+  -- a turn that continues is a step below the limit
   pub one_step :
       (p : StoredProgram) (limit : ℕ) (S T : State) (a rest : Answers)
       → turn p limit S a ≡ Done (Next T) rest → (S.steps < limit) × (T.steps ≡ S.steps + 1)

@@ -1,6 +1,6 @@
 -- This file defines the result of a run whose chooser notes where another one was refused memory.
 --     noted refused refuses z n      why it gives no answer, where `refuses` says why the other one doesn't
---     noted_result refused result    the result of a run: want of memory where the run stopped for that
+--     noted_result refused result    the result of a run: lack of memory where the run stopped for that
 use Rattle.std.specs.Prelude.{ℤ, Bool, true, false, Result, Ok, Err, if◌then◌else◌}
 use Rattle.ptb_answers.specs.declared.pause.Pause.{Pause}
 use Rattle.ptb_answers.specs.declared.pause.Pause.TheVariants as pauses

@@ -80,7 +80,7 @@ GoesBy refuses c d answers p rules =
 
 -- ---- a line that can't be read
 
--- On the lines that came complete, a run ends for want of the next one. With answers instead of lines it would ask
+-- On the lines that came complete, a run ends for lack of the next one. With answers instead of lines it would ask
 -- for one: what was shown is all that it shows before, and so a prefix of what it shows with the answers `a`.
 abbrev pub ShowsUnread : Option ℤ → (Answers → List ℕ × Ending) → Answers → Option (List ℕ) → Option (List ℕ) → Type 0
 ShowsUnread None run a old new = ShowsRun (run a) old new endings.NoInput
@@ -89,7 +89,7 @@ ShowsUnread (Some n) run a old new =
 
 -- ---- an answer for which there is no memory
 
--- With the first of these answers a run ends for want of one more: what was shown is all that it shows up to that
+-- With the first of these answers a run ends for lack of one more: what was shown is all that it shows up to that
 -- question.
 pub record ShowsQuestion (run : Answers → List ℕ × Ending) (all : Answers) (old new : Option (List ℕ)) : Type 0 where
   pub drawn : Answers
@@ -103,7 +103,7 @@ pub record ShowsQuestion (run : Answers → List ℕ × Ending) (all : Answers) 
 abbrev pub lines_taken : StoredProgram → List (List ℕ) → Rules → Answers → ℕ
 lines_taken p lines rules a = length lines - length (unasked_lines p lines rules a)
 
--- one more where it ended for want of a line, or the next could not be read
+-- one more where it ended for lack of a line, or the next could not be read
 abbrev pub ending_wanted : ℕ → Result Ending RunFault → ℕ
 ending_wanted k (Ok endings.NoInput) = k + 1
 ending_wanted k (Ok endings.End) = k

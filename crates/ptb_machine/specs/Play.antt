@@ -1,7 +1,7 @@
 -- This file defines whole runs.
 --     turn p limit S           the next thing that a run does
 --     all_turns p limit S a    the last state of a run, and its ending there
---     play p input rules a     what a run of the program p comes to with the answers a
+--     play p input rules a     the result of a run of the program p with the answers a
 --     unasked_lines p input rules a    the lines of the input for which it doesn't ask
 --     stopping_line p input rules a    the number of the statement in which its next command begins where it is over,
 --                                      or asks
@@ -40,7 +40,7 @@ pub record Last : Type 0 where
 abbrev pub last_in : Ending → State → Last
 last_in ending S = record { ending = ending; state = S }
 
--- the run goes on, or is over
+-- the run continues, or is over
 abbrev pub after_turn : (State → Answers → Outcome Last State) → StepResult → Answers → Outcome Last State
 after_turn others (Next S) rest = others S rest
 after_turn others (Over ending S) rest = Done (last_in ending S) rest
@@ -50,7 +50,7 @@ unfoldable pub turns_within : ℕ → StoredProgram → ℕ → State → Answer
 turns_within zero p limit S a = Done (last_in endings.Limit S) a
 turns_within (suc n) p limit S a = go_on (turn p limit S a) (after_turn (turns_within n p limit))
 
--- each turn after which a run goes on is a step below the limit, so there are no more turns than these
+-- each turn after which a run continues is a step below the limit, so there are no more turns than these
 unfoldable pub all_turns : StoredProgram → ℕ → State → Answers → Outcome Last State
 all_turns p limit S a = turns_within (suc (limit - S.steps)) p limit S a
 
@@ -66,7 +66,7 @@ finish_in ending S = record { ending = ending; steps = S.steps; shown = S.shown 
 abbrev pub finish_of : Last → Finish
 finish_of l = finish_in l.ending l.state
 
--- what all turns come to, as the end of a run is told
+-- the result of all turns, as the end of a run is reported
 unfoldable pub turns : StoredProgram → ℕ → State → Answers → Outcome Finish State
 turns p limit S a = map_outcome finish_of (λ T. T) (all_turns p limit S a)
 
@@ -74,7 +74,7 @@ abbrev pub after_step_result : (State → Answers → Outcome Finish State) → 
 after_step_result others (Next S) rest = others S rest
 after_step_result others (Over ending S) rest = Done (finish_in ending S) rest
 
--- beside a question stands what was shown before it
+-- a question is accompanied by what was shown before it
 unfoldable pub play : StoredProgram → List (List ℕ) → Rules → Answers → Outcome Finish (List ℕ)
 play p input rules a = map_outcome (λ f. f) (λ S. S.shown) (turns p rules.limit (first_state p input rules.choose) a)
 

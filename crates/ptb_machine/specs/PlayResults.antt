@@ -1,4 +1,4 @@
--- This file defines what a play of the definition comes to with its devices, by the result of its run.
+-- This file defines the result of a play of the definition with its devices, by the result of its run.
 --
 -- The result says how far the play was done: to its end; to a question that was refused, or a line that
 -- isn't there; or to where a device failed, so that a prefix of it was shown.
@@ -39,7 +39,7 @@ played_bytes (Done f rest) = f.shown
 played_bytes (Asks n shown) = shown
 played_bytes (Out n shown) = shown
 
--- want of memory is no refusal of an answer
+-- lack of memory is no refusal of an answer
 abbrev pub refused_answers : Pause → Answers → Answers
 refused_answers pauses.Ended later = []
 refused_answers (pauses.OutOfRange k) later = k ∷ later

@@ -9,7 +9,7 @@ use Rattle.ptb_command.specs.Commands.{Part, Assign, Say, Width, Show, NewLine, 
 use Rattle.ptb_command.specs.Commands.{Operand, Defect, Command, commands}
 use Rattle.ptb_command.specs.State.{State}
 
--- how often a part asks at most, but for the lines that it takes: once for each RND, and once for a line that isn't
+-- how often a part asks at most, except for the lines that it takes: once for each RND, and once for a line that isn't
 -- there
 abbrev pub part_questions : Part → ℕ
 part_questions (Assign x y) = questions x + questions y

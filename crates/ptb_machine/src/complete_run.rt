@@ -22,9 +22,9 @@ use std::alloc::{AllocError, Global};
 /// # Errors
 ///
 /// [`RunFault::Memory`], [`RunFault::Read`] and [`RunFault::Write`] where a growth was refused
-/// memory, the input could not be read or is too long, or the screen could not be written. A
-/// beginning of what the run shows may have been shown then. Never [`RunFault::Spent`]. A write
-/// that fails is answered in no other way.
+/// memory, the input could not be read or is too long, or the screen could not be written. A prefix
+/// of what the run shows may have been shown then. Never [`RunFault::Spent`]. A write that fails is
+/// answered in no other way.
 pub fn run<C: Chooser, S: Screen, L: LineSource>(
     alloc: Global,
     program: &Program,
@@ -75,7 +75,7 @@ fn begun(alloc: Global, program: &Program) -> Result<(Player<'_>, Machine), Allo
     Ok((player, machine))
 }
 
-// Plays a machine, which stands at the beginning of a run of the player's program, to the ending.
+// Plays a machine, which is at the beginning of a run of the player's program, to the ending.
 fn play<C: Chooser, S: Screen, L: LineSource>(
     player: &mut Player<'_>,
     machine: &mut Machine,

@@ -21,9 +21,9 @@ pub fn run_laws()
     value_laws();
 }
 
-/// A run that has its answers ends in one of seven ways: behind the last statement, at STOP, with
-/// one of the three faults, at its limit, or for want of a line; the last only where no answers are
-/// taken in place of lines.
+/// A run that has its answers ends in one of seven ways: after the last statement, at STOP, with
+/// one of the three faults, at its limit, or for lack of a line; the last only where no answers are
+/// taken instead of lines.
 #[tactic(auto, using(crate::proofs::Endings::ending_laws))]
 pub fn ending_laws()
     ensures { EndingLaws }

@@ -1,7 +1,7 @@
 //! The machine of Tiny BASIC: the steps of a run, one command after another, whole runs, and a program
 //! that is played once.
 //!
-//! It stands on `ptb_command`, `ptb_devices`, `ptb_expr`, `ptb_answers`, `ptb_text`, `ptb_words`,
+//! It depends on `ptb_command`, `ptb_devices`, `ptb_expr`, `ptb_answers`, `ptb_text`, `ptb_words`,
 //! `arrayvec`, `itoa` and `thiserror`. The crate above may rely on `Machine::step` (one turn of
 //! `specs/Play`: the state after it, what it shows, the lines and answers it takes), on `Player::step`
 //! (the same by the code of the program, without its text), on `Player::advance` (some turns that touch
@@ -9,9 +9,9 @@
 //! stopped it), on `run_plain` and `run_seeded` (a run with a list of answers, or with those of a seed:
 //! its bytes and its ending, what is read of its input, and which fault it was), on
 //! `run_plain_to_end` and `run_seeded_to_end` (the same, and the line at which a limit stopped the
-//! run), on `seeded_laws` (what a seed draws), on `SavedMachine` (where a machine stands, in little memory, to which it can be
-//! restored), on `run_laws` (answers are taken one by one, a limited number of them), and on the
-//! devices of the crate below, which it passes on.
+//! run), on `seeded_laws` (what a seed draws), on `SavedMachine` (where a machine is, in little
+//! memory, to which it can be restored), on `run_laws` (answers are taken one by one, a limited
+//! number of them), and on the devices of the crate below, which it passes on.
 #![tactic(auto)]
 
 mod complete_run;

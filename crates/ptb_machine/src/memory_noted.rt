@@ -12,7 +12,7 @@ use ptb_command::Ending;
 /// Answers as another chooser does. Where that one is refused memory, no answer is left, and the
 /// refusal is noted.
 ///
-/// A run stops at the question then, as it does for want of an answer.
+/// A run stops at the question then, as it does for lack of an answer.
 #[derive(Drop)]
 pub(crate) struct MemoryNoted<C> {
     /// The chooser that has the answers.
@@ -33,7 +33,7 @@ impl<C> MemoryNoted<C> {
         }
     }
 
-    /// The result of a run that asked it: want of memory where the run stopped for that.
+    /// The result of a run that asked it: lack of memory where the run stopped for that.
     pub(crate) fn conclude(&self, ended: Result<RunEnd, RunFault>) -> Result<RunEnd, RunFault>
         ensures result { ending_alone result ≡ noted_result self.now.refused (ending_alone ended) }
         ensures end { IfOk result (λ end. ended ≡ Ok end) }

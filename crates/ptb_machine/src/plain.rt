@@ -30,7 +30,7 @@ use std::alloc::Global;
 /// # Errors
 ///
 /// [`RunFault::Read`] where a line could not be read, or more than 16,777,216 bytes would have to
-/// be: on the lines that came complete the run ends for want of a line, and the writer got what it
+/// be: on the lines that came complete the run ends for lack of a line, and the writer got what it
 /// shows. With answers instead of lines, the writer got what the run shows up to the question that
 /// this line would have answered.
 /// [`RunFault::Memory`] where a growth was refused memory: nothing was shown then.

@@ -35,7 +35,7 @@ fn text_before(text: &[u8], mark: usize) -> &[u8]
     &text[..mark.min(text.len())]
 }
 
-// The text behind a mark.
+// The text after a mark.
 fn text_after(text: &[u8], mark: usize) -> &[u8]
     ensures { result.now ≡ drop mark text.now }
 {
@@ -79,12 +79,12 @@ fn put_joined<S: Screen>(
 }
 
 /// Shows what is wrong with the statement of this number and text: the word of the fault on a line of
-/// its own, and the statement with a question mark where its mark is, or behind it where that is
+/// its own, and the statement with a question mark where its mark is, or after it where that is
 /// past its end.
 ///
 /// # Errors
 ///
-/// [`ScreenFault`] where the screen could not be written. A beginning of the report may have been
+/// [`ScreenFault`] where the screen could not be written. A prefix of the report may have been
 /// shown then.
 pub fn report<S: Screen>(
     screen: &mut S,
@@ -101,8 +101,8 @@ pub fn report<S: Screen>(
     let mut buffer = Buffer::new();
     let digits = buffer.format(number).as_bytes();
     let before = text_before(text, fault.mark);
-    let behind = text_after(text, fault.mark);
+    let following = text_after(text, fault.mark);
     put_joined(screen, fresh, fault_line(*fresh, fault.kind), digits, b" ")?;
-    put_joined(screen, fresh, before, b"?", behind)?;
+    put_joined(screen, fresh, before, b"?", following)?;
     put(screen, fresh, b"\n")
 }

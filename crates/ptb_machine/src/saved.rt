@@ -1,4 +1,4 @@
-// This file has the saved form of a machine: where a run stands, in little memory.
+// This file has the saved form of a machine: where a run is, in little memory.
 
 ghost use Rattle.std.specs.Prelude.{◌≡◌, ◌↔◌, true, IsOk, IsTrue, OnOk, OnErr};
 
@@ -7,10 +7,10 @@ use ptb_command::SavedRegisters;
 use std::alloc::{AllocError, Global};
 use std::marker::Model;
 
-/// Where a machine stands. It takes memory for what is in use alone: the elements up to the last one
-/// that was stored, and the loops and calls that are open.
+/// The state of a machine. It takes memory for what is in use alone: the elements up to the last
+/// one that was stored, and the loops and calls that are open.
 ///
-/// Contracts see it as the machine that stands there.
+/// Contracts see it as that machine.
 #[derive(Drop)]
 pub struct SavedMachine {
     registers: SavedRegisters,
@@ -28,7 +28,7 @@ impl Model for SavedMachine {
 }
 
 impl SavedMachine {
-    /// A place without memory, at which no run stands.
+    /// A place without memory, at which no run is.
     pub fn new(alloc: Global) -> SavedMachine
         ensures { result.spent ≡ true }
     {
@@ -40,7 +40,7 @@ impl SavedMachine {
         }
     }
 
-    /// Takes over where a machine stands.
+    /// Takes over where a machine is.
     ///
     /// # Errors
     ///
@@ -80,12 +80,12 @@ impl SavedMachine {
 }
 
 impl Machine {
-    /// Goes to where a machine stood when it was saved. It takes no memory where both arrays have the
+    /// Goes to where a machine was when it was saved. It takes no memory where both arrays have the
     /// same size, as those of one program have.
     ///
     /// # Errors
     ///
-    /// [`AllocError`] where there is no memory for the array. It stands where it stood then.
+    /// [`AllocError`] where there is no memory for the array. It stays where it was then.
     pub fn restore(&mut self, alloc: Global, saved: &SavedMachine) -> Result<(), AllocError>
         ensures ok { OnOk result (self.new ≡ saved.now) }
         ensures same_size { self.old.cells.size ≡ saved.now.cells.size → IsOk result }

@@ -1,4 +1,4 @@
-// This file says what a step comes to, by what its command comes to.
+// This file has the result of a step, by the result of its command.
 
 ghost use Rattle.std.specs.Prelude.{◌≡◌, ℕ, List, Some, slice_get};
 ghost use Rattle.ptb_expr.specs.Store.{Cells};
@@ -12,7 +12,8 @@ use ptb_command::{CommandIo, Ending, Stop, line_at};
 use ptb_devices::{LineSource, Screen};
 use ptb_text::Program;
 
-/// What a step comes to whose command, one of this statement, comes to `done`. A fault is reported.
+/// The result of a step whose command, one of this statement, has the result `done`. A fault is
+/// reported.
 pub(crate) fn result_of<C: Chooser, S: Screen, L: LineSource>(
     done: Result<(), Stop>,
     program: &Program,

@@ -1,4 +1,4 @@
--- This file proves that a machine that fits one of two programs fits the other, whose commands stand at the same
+-- This file proves that a machine that fits one of two programs fits the other, whose commands are at the same
 -- places.
 -- Main lemma: `fits_prints`.
 use Rattle.std.proofs.Common.{◌≡◌, ◌∙◌, ℕ, zero, suc, List, [], ◌∷◌, drop, slice_get, Option, Some}

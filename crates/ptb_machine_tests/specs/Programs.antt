@@ -1,4 +1,4 @@
--- This file defines two programs whose commands stand at the same places.
+-- This file defines two programs whose commands are at the same places.
 --     IsCounting p     the program of a sum, done again and again
 --     IsPrinting p     the program of an empty line, shown again and again
 use Rattle.std.specs.Prelude.{◌≡◌, codes, Ok}

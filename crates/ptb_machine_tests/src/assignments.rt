@@ -36,7 +36,7 @@ const ASSIGNMENTS: &[(&str, Result<usize, Stop>, i16, i16)] = &[
     ("10 A=1X", fault!(What, 3), 1, 0),
     ("10 A=1,", fault!(What, 4), 1, 0),
     ("10 LET", fault!(What, 3), 0, 0),
-    // what stands before the fault is stored, and nothing after it
+    // what is before the fault is stored, and nothing after it
     ("10 A=1,B=1/0", fault!(How, 9), 1, 0),
     ("10 A=1,B=1/0,A=2", fault!(How, 9), 1, 0),
     ("10 A=4,@(3)=A,A=1/0", fault!(How, 16), 4, 4),

@@ -1,4 +1,4 @@
-// This file tests what each command does, and where a run stands.
+// This file tests what each command does, and where a run is.
 
 use crate::shared::{MEMORY, execute_first, expect_same, fault, letter, plain_rules};
 use ptb_command::{
@@ -393,7 +393,7 @@ fn same_registers(rt: HostRuntime) {
     }
 }
 
-// The statements of a program of two lines, and one behind them: the place after it, its number and
+// The statements of a program of two lines, and one after them: the place after it, its number and
 // its text.
 const STATEMENTS: &[(usize, Option<(usize, usize)>, i16, &[u8])] = &[
     (0, Some((1, 0)), 10, b"A=1"),
@@ -436,7 +436,7 @@ fn places(rt: HostRuntime) -> Result<(), Fail> {
     Ok(())
 }
 
-// Where the first command of a program begins: in which statement, and behind how many bytes.
+// Where the first command of a program begins: in which statement, and after how many bytes.
 fn first_command(program: &Program) -> Option<(usize, usize)> {
     let place = first_place(program);
     next_command(program, place).map(|(statement, cursor)| (statement, cursor.place()))
@@ -467,7 +467,7 @@ fn zeros(rt: HostRuntime) {
     );
 }
 
-// Bytes that are shown, and whether a transcript is fresh before them and behind them.
+// Bytes that are shown, and whether a transcript is fresh before and after them.
 const SHOWN: &[(&str, bool, bool)] = &[
     ("", true, true),
     ("", false, false),

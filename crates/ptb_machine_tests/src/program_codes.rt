@@ -97,7 +97,7 @@ const RUNS: &[Row] = &[
     (&["10 A=7;A=A/0"], 9, 1, (0, 4), 7),
     (&["10 A=7;A=RND(1)"], 9, 1, (0, 4), 7),
     (&["10 A=7;INPUT A"], 9, 1, (0, 4), 7),
-    // a command that has a fault after its first part isn't begun
+    // a command that has a fault after its first part isn't started
     (&["10 A=7", "20 A=8,B=A/0"], 9, 1, (0, 3), 7),
     (&["10 A=7", "20 F.A=8TO A/0"], 9, 1, (0, 3), 7),
     // up to the end of the program

@@ -107,7 +107,7 @@ fn next_length<R: Read>(source: &mut ReaderLines<'_, R>) -> Result<Option<usize>
     Ok(source.next()?.map(|line| line.len()))
 }
 
-// Lines that end at the border of the buffer, and begin behind it.
+// Lines that end at the border of the buffer, and begin after it.
 #[test]
 fn lines_across_the_buffer(rt: HostRuntime) {
     let mut bytes = [b'A'; 5000];
@@ -174,7 +174,7 @@ const FAULTS: &[(&[u8], usize, usize)] = &[
     (b"5\n7\n", 2, 2),
 ];
 
-// A fault is answered behind the lines that came whole, and again, without another read.
+// A fault is answered after the lines that came complete, and again, without another read.
 #[test]
 fn faults_again(rt: HostRuntime) {
     for &(bytes, lines, calls) in FAULTS {
@@ -189,7 +189,7 @@ fn faults_again(rt: HostRuntime) {
     }
 }
 
-// How long an input is, where its newline stands, how many lines of it come, the fault behind them,
+// How long an input is, where its newline is, how many lines of it come, the fault after them,
 // and how many bytes are taken.
 const LENGTHS: &[(usize, usize, usize, Option<ReadFault>, usize)] = &[
     (16_777_216, 2, 2, None, 16_777_216),

@@ -344,7 +344,7 @@ fn step_of(
     machine.step(program, plain_rules(limit), &mut list, screen, &mut input)
 }
 
-// A step comes to this, and so many commands are begun and this is shown then.
+// A step has this result, and so many commands are begun and this is shown then.
 fn expect_step(
     rt: &impl Abort,
     machine: &mut Machine,
@@ -361,7 +361,7 @@ fn expect_step(
     expect_same(rt, "a step", found, want);
 }
 
-// The steps of a program that prints twice, and one behind them.
+// The steps of a program that prints twice, and one after them.
 fn expect_steps(rt: &impl Abort, machine: &mut Machine, program: &Program, screen: &mut TextScreen)
     requires { FitsProgram program.now machine.old }
 {
@@ -384,7 +384,7 @@ fn steps(rt: HostRuntime) -> Result<(), Fail> {
     Ok(())
 }
 
-// A copy takes over where the machine stands behind a step, and goes on to the end by itself; the
+// A copy takes over where the machine is after a step, and continues to the end by itself; the
 // machine is over where it takes over from there.
 fn expect_taken_over(
     rt: &impl Abort,
@@ -419,7 +419,7 @@ fn expect_copies(rt: &impl Abort, alloc: Global, program: &Program) -> Result<()
     expect_taken_over(rt, alloc, program, &mut machine, &mut copy, &mut screen)
 }
 
-// A copy goes on by itself, also from where it was taken over; one of a machine that is over is
+// A copy continues by itself, also from where it was taken over; one of a machine that is over is
 // over.
 #[test]
 fn copies(rt: HostRuntime) -> Result<(), Fail> {
@@ -504,7 +504,7 @@ fn different_machines(rt: HostRuntime) -> Result<(), Fail> {
 // A sum that is done again and again, which shows nothing.
 const COUNTS: &[u8] = b"10 A=A+1\n20 GOTO 10";
 
-// An empty line that is shown again and again. Its commands stand where those of the sum stand.
+// An empty line that is shown again and again. Its commands are where those of the sum are.
 const PRINTS: &[u8] = b"10 PRINT\n20 GOTO 10";
 
 // A machine that fits the one program fits the other.
@@ -515,7 +515,7 @@ fn fits_prints(machine: &Machine, counts: &Program, prints: &Program)
     ensures { FitsProgram prints.now machine.now }
 {}
 
-// Does a command that shows nothing; whether the run goes on.
+// Does a command that shows nothing; whether the run continues.
 fn goes_on(machine: &mut Machine, program: &Program, screen: &mut TextScreen) -> bool
     requires { FitsProgram program.now machine.old }
     ensures { FitsProgram program.now machine.new }
@@ -877,7 +877,7 @@ fn limits_on_commands_in_a_loop(rt: HostRuntime) -> Result<(), Fail> {
     expect_limits(&rt, rt.alloc(), b"10 A=A+1;P.A,;GOTO 10", LIMITS)
 }
 
-// A statement whose second command stands at place 128, behind blanks, and one that prints.
+// A statement whose second command is at place 128, after blanks, and one that prints.
 fn long_statement(alloc: Global) -> Result<Vec<u8>, Fail> {
     let mut text = Vec::from_slice(alloc, b"10 A=A+1")?;
     text.resize(3 + 127, b' ')?;

@@ -20,7 +20,7 @@ fn loop_of(letter: Letter) -> OpenLoop {
     }
 }
 
-// Does what a byte stands for, and tells whether it was done: `(` opens a call and `A` a loop; `)`
+// Does what a byte stands for, and says whether it was done: `(` opens a call and `A` a loop; `)`
 // closes the newest call, `a` the loops that are newer than that of A, and `-` what is newest.
 fn change(stack: &mut Stack, byte: u8) -> bool {
     match byte {

@@ -52,7 +52,7 @@ fn expect_lengths(rt: &impl Abort, lines: &[Line], want: [usize; 3]) {
     }
 }
 
-// A line longer than the buffer, and one behind it.
+// A line longer than the buffer, and one after it.
 #[test]
 fn long_lines(rt: HostRuntime) -> Result<(), Fail> {
     let mut bytes = [b'A'; 5000];
@@ -75,7 +75,7 @@ fn failing_readers(rt: HostRuntime) {
     }
 }
 
-// How long an input is, the fault that it comes to, and how many bytes are taken.
+// How long an input is, the fault that results, and how many bytes are taken.
 const LENGTHS: &[(usize, Option<ReadFault>, usize)] = &[
     (16_777_216, None, 16_777_216),
     (16_777_217, Some(ReadFault::TooLong), 16_777_217),

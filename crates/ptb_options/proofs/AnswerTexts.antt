@@ -201,8 +201,8 @@ item_is_numbers s a b m parts lacks h = go m.bound refl
     front : before_first (λ b. b == 47) s ≡ a
     front = ap (before_first (λ b. b == 47)) parts ∙ before_first-at 47 a b lacks
 
-    behind : after_first (λ b. b == 47) s ≡ b
-    behind = ap (after_first (λ b. b == 47)) parts ∙ after_first-at 47 a b lacks
+    following : after_first (λ b. b == 47) s ≡ b
+    following = ap (after_first (λ b. b == 47)) parts ∙ after_first-at 47 a b lacks
 
     answer : signed_decimal m.answer ≡ a
     answer = sym (item_front m h.0) ∙ ap (before_first (λ b. b == 47)) h.1 ∙ front
@@ -215,7 +215,7 @@ item_is_numbers s a b m parts lacks h = go m.bound refl
     go (Some n) e = (
       n,
       (h.0.0, answer),
-      (h.0.1 n e, ap number_after (sym e) ∙ sym (item_after m h.0) ∙ ap (after_first (λ b. b == 47)) h.1 ∙ behind),
+      (h.0.1 n e, ap number_after (sym e) ∙ sym (item_after m h.0) ∙ ap (after_first (λ b. b == 47)) h.1 ∙ following),
       ap (λ (p : Option ℤ). record { answer = m.answer; bound = p }) e,
     )
 

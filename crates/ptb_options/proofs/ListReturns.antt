@@ -1,4 +1,4 @@
--- This file proves what the ways out of reading a list tell, from what its reader knows of each step.
+-- This file proves the results at the exits of reading a list, from what its reader knows of each step.
 -- Main lemma: `has_answers`.
 use Rattle.std.proofs.Common.{◌≡◌, ◌≢◌, ◌∙◌, ap, sym, ℕ, Bool, true, false, List, [], ℤ, Option}
 use Rattle.std.proofs.Common.{Some, None, Result, Ok, Err, IfErr, IfOk, subst}
@@ -18,12 +18,12 @@ use Rattle.ptb_options.specs.declared.usage.UsageFault.TheVariants.{BadList, Mem
 pub read_is_bad : {T X : Type 0} (x : T) → ◌≡◌ {A = Result T UsageFault} (Ok x) (Err BadList) → X
 read_is_bad x e = absurd (cc)
 
--- nor is one refused as bad for want of memory
+-- nor is one refused as bad for lack of memory
 pub memory_is_bad : {T X : Type 0} (r : Result T UsageFault) → IsErrAnd r (λ y. y ≡ Memory) → r ≡ Err BadList → X
 memory_is_bad (Ok x) is e = absurd is
 memory_is_bad (Err fault) is e = absurd (cc)
 
--- a list that was read does not want memory
+-- a list that was read does not lack memory
 pub read_is_memory : {T X : Type 0} (x : T) → ◌≡◌ {A = Result T UsageFault} (Ok x) (Err Memory) → X
 read_is_memory x e = absurd (cc)
 

@@ -20,7 +20,7 @@ some_injective a b e = cc
 none_is_some : (a : List ℕ) → ◌≡◌ {A = Option (List ℕ)} None (Some a) → ⊥
 none_is_some a e = cc
 
--- an argument that was passed over: it is not `--`, and gives no wrong value
+-- an argument that was skipped: it is not `--`, and gives no wrong value
 pub record IsPassed (words : List (List ℕ)) (place : ℕ) : Type 0 where
   pub other : slice_get words place ≢ Some dashes
   pub right : HasNoWrongValue (slice_get words place) (slice_get words (place + 1))
@@ -51,7 +51,7 @@ missing words place w none wrong = elim wrong.given [
   | inr e ↦ none_is_some _ (sym none ∙ e.0)
 ]
 
--- where all were passed over, there is none
+-- where all were skipped, there is none
 pub none_after : (words : List (List ℕ)) (i : ℕ) → ArePassed words i → length words ≤ i → HasNoWrongNumber words
 none_after words i passed all place w wrong = by_place (leb i place) refl where
   by_place : (b : Bool) → leb i place ≡ b → ⊥
@@ -97,7 +97,7 @@ module _ (words : List (List ℕ)) (i : ℕ) (word : List ℕ) (found : Option (
         below_more (λ (j : ℕ). 1 ≤ j → slice_get words j ≢ Some dashes) i (λ j below low. (passed j below low).other)
         (λ (_ : 1 ≤ i). other)
 
-    -- and gives no wrong value, so that one more is passed over
+    -- and gives no wrong value, so that one more is skipped
     pub passed_more : (next : Option (List ℕ)) → next ≡ slice_get words (i + 1) → HasNoWrongValue (Some word) next
         → ArePassed words (i + 1)
     passed_more next follows right =

@@ -82,7 +82,7 @@ module _ (word : List ℕ) (args : List ListedArg) (i : ℕ) (d : ListedArg) (so
       → NamesNoneBefore word (i + 1)
   no_number none before = unnamed_more (λ range kind _. none range kind) before
 
--- where all were passed over, there is none
+-- where all were skipped, there is none
 pub unnamed_all : (word : List ℕ) (i : ℕ) → 16 ≤ i → NamesNoneBefore word i → NamesNoNumber word
 unnamed_all word i all before o h =
     let inside : h.rule.0 < 16 = h.rule.1 in

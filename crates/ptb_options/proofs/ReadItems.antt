@@ -1,4 +1,4 @@
--- This file proves what the ways out of reading an item tell, from what its reader knows of each step.
+-- This file proves the results at the exits of reading an item, from what its reader knows of each step.
 -- Main lemmas: `number_only` and `both`.
 use Rattle.std.proofs.Common.{◌≡◌, ◌∙◌, ap, ap₂, sym, arith, List, ℕ, ℤ, Option, Some, None}
 use Rattle.std.proofs.Common.{FitsSigned, of_z, subst, to_z, to_z-of_z, w16}

@@ -1,4 +1,4 @@
--- This file proves that no value of an option is passed over that is no number in the option's range.
+-- This file proves that no value of an option is skipped that is no number in the option's range.
 -- Main lemmas: `accepted_next` and `accepted_after`.
 use Rattle.std.proofs.Common.{◌≡◌, ◌∙◌, ap, append_assoc, sym, subst, arith, inl, inr, ℕ, ◌<◌}
 use Rattle.std.proofs.Common.{false, List, [], ◌∷◌, ◌++◌, length, Option, Some, None, IfSome}

@@ -147,13 +147,13 @@ HasBound o = ForSome o.choose (λ n. (1 ≤ n) × (n ≤ 32767))
 
 -- ---- what they ask for
 
--- what may stand beside none of --list, --check and --chances
+-- what can be combined with none of --list, --check and --chances
 abbrev pub says_which_runs : Options → Bool
 says_which_runs o =
     o.all || is_some o.answers || is_some o.seed || is_some o.under || is_some o.after || is_some o.first
     || is_some o.form || is_some o.shares || is_some o.sample
 
--- what may stand beside neither --list nor --check
+-- what can be combined with neither --list nor --check
 abbrev pub asks_for_runs : Options → Bool
 asks_for_runs o = says_which_runs o || is_some o.choose || o.chances
 
@@ -234,7 +234,7 @@ pub record Asks (o : Options) (r : Request) : Type 0 where
   pub memory : r.memory ≡ unwrap_or o.memory default_memory
   pub mode : AsksMode o r.mode
 
--- ---- why they ask for nothing
+-- ---- why they are a usage error
 
 abbrev pub list_text : Options → ListOption → Option (List ℕ)
 list_text o Under = o.under

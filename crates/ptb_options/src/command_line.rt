@@ -35,7 +35,7 @@ pub fn command<'a>(alloc: Global) -> Result<Command<'a>, AllocError>
 ///
 /// # Errors
 ///
-/// clap's error, with its text; where the arguments are right that is want of memory alone.
+/// clap's error, with its text; where the arguments are right, it is always lack of memory.
 pub fn parse<'a, S: AsStr>(alloc: Global, words: &'a [S]) -> Result<ArgMatches<'a>, Error>
     ensures entries { IfOk result (λ m.
         entries_of m ≡ matches_of tool (map S.text words.entry.now)) }

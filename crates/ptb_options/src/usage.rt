@@ -7,7 +7,7 @@ ghost use Rattle.ptb_options.specs.declared.usage.UsageFault.TheVariants.{Memory
 use std::alloc::AllocFailed;
 use thiserror::Error;
 
-/// A usage error, or want of memory for a list.
+/// A usage error, or lack of memory for a list.
 #[derive(Clone, Copy, Debug, PartialEq, Eq, Error)]
 pub enum UsageFault {
     /// `--after` without `--all`.

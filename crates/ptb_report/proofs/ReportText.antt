@@ -13,7 +13,7 @@ use Rattle.ptb_answers.specs.declared.form.Marked.{Marked}
 use Rattle.ptb_answers.specs.AnswerText.{spelling, item_text, in_form, items_in}
 use Rattle.ptb_report.specs.Report.{report_text}
 
--- what stands behind the answers, in the order in which it is written
+-- what follows the answers, in the order in which it is written
 abbrev pub after_answers : (word steps size shown : List ℕ) → List ℕ
 after_answers word steps size shown = codes " "
     ++ (word ++ (codes " " ++ (steps ++ (codes " " ++ (size ++ (codes "\n" ++ (shown ++ (codes "\n" ++ []))))))))
@@ -35,7 +35,7 @@ report_in_pieces items word steps shown =
 abbrev pub comma_and : Marked → List ℕ
 comma_and m = codes "," ++ item_text m
 
--- the pieces of a list: its items, each but the first behind a comma
+-- the pieces of a list: its items, each but the first after a comma
 abbrev pub pieces_of : List Marked → List (List ℕ)
 pieces_of [] = []
 pieces_of (m ∷ list) = item_text m ∷ map comma_and list

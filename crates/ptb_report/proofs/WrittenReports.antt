@@ -16,7 +16,7 @@ pub on_err_always : {T E Q : Type 0} (r : Result T E) → Q → OnErr r Q
 on_err_always (Ok x) q = tt
 on_err_always (Err e) q = q
 
--- a fault behind calls that counted none
+-- a fault after calls that counted none
 pub failed_after : (a b c : ℕ) → b ≡ a → HasFailed b c → HasFailed a c
 failed_after a b c same h = subst (λ (n : ℕ). HasFailed n c) same h
 
@@ -24,16 +24,16 @@ failed_after a b c same h = subst (λ (n : ℕ). HasFailed n c) same h
 -- answers.
 module _ (items : List Marked) (word : List ℕ) (steps : ℕ) (shown : List ℕ) (a : Option (List ℕ)) (none : List ℕ)
     (is : none ≡ []) where
-  -- what stands behind the answers
-  abbrev behind : List ℕ
-  behind = after_answers word (decimal steps) (decimal (length shown)) shown
+  -- what follows the answers
+  abbrev following : List ℕ
+  following = after_answers word (decimal steps) (decimal (length shown)) shown
 
   pub first_fails : (b : Option (List ℕ)) → TakesSome a b (none ++ codes "RUN ")
       → TakesSome a b (report_text items word steps shown)
   first_fails b t =
       let some : TakesSome a b (codes "RUN ") = subst (λ (z : List ℕ). TakesSome a b (z ++ codes "RUN ")) is t in
       subst (TakesSome a b) (report_in_pieces items word steps shown)
-      (some_more a b (codes "RUN " ++ spelling items) behind (some_more a b (codes "RUN ") (spelling items) some))
+      (some_more a b (codes "RUN " ++ spelling items) following (some_more a b (codes "RUN ") (spelling items) some))
 
   module _ (b : Option (List ℕ)) (p : List ℕ) (first : Gathers a b (none ++ codes "RUN ") p) where
     begun : Gathers a b (codes "RUN ") p
@@ -43,7 +43,7 @@ module _ (items : List Marked) (word : List ℕ) (steps : ℕ) (shown : List ℕ
         → TakesSome a c (report_text items word steps shown)
     answers_fail c t =
         subst (TakesSome a c) (report_in_pieces items word steps shown)
-        (some_more a c (codes "RUN " ++ spelling items) behind
+        (some_more a c (codes "RUN " ++ spelling items) following
         (some_after a b c (codes "RUN ") p (spelling items) begun t))
 
     module _ (c : Option (List ℕ)) (q : List ℕ) (second : Gathers b c (p ++ spelling items) q) (counted : List ℕ)
@@ -51,7 +51,7 @@ module _ (items : List Marked) (word : List ℕ) (steps : ℕ) (shown : List ℕ
       listed : Gathers a c (codes "RUN " ++ spelling items) q
       listed = gathers_more a b c (codes "RUN ") p (spelling items) q begun second
 
-      same_after : q ++ after_answers word counted sized shown ≡ q ++ behind
+      same_after : q ++ after_answers word counted sized shown ≡ q ++ following
       same_after =
           ap (λ (z : List ℕ). q ++ after_answers word z sized shown) count
           ∙ ap (λ (z : List ℕ). q ++ after_answers word (decimal steps) z shown) size
@@ -61,14 +61,14 @@ module _ (items : List Marked) (word : List ℕ) (steps : ℕ) (shown : List ℕ
           → OnOk result (Appends a d (report_text items word steps shown))
       all_written d result h =
           on_ok_weaker result (λ t. subst (Appends a d) (report_in_pieces items word steps shown) (all_more a c d
-          (codes "RUN " ++ spelling items) q behind listed (subst (Appends c d) same_after t))) h
+          (codes "RUN " ++ spelling items) q following listed (subst (Appends c d) same_after t))) h
 
       pub rest_fails : (d : Option (List ℕ)) {T E : Type 0} (result : Result T E)
           → OnErr result (TakesSome c d (q ++ after_answers word counted sized shown))
           → OnErr result (TakesSome a d (report_text items word steps shown))
       rest_fails d result h =
           on_err_weaker result (λ t. subst (TakesSome a d) (report_in_pieces items word steps shown) (some_after a c d
-          (codes "RUN " ++ spelling items) q behind listed (subst (TakesSome c d) same_after t))) h
+          (codes "RUN " ++ spelling items) q following listed (subst (TakesSome c d) same_after t))) h
 
 -- ---- a list of answers
 

@@ -17,7 +17,7 @@ use Rattle.ptb_answers.specs.AnswerText.{items_in, spelling}
 abbrev pub asked_items : Form → List Asked → List Marked
 asked_items form asked = items_in form (answers_in asked) (bounds_in asked)
 
--- one space stands in front of each field
+-- one space is before each field
 abbrev pub field : List ℕ → List ℕ
 field bytes = codes " " ++ bytes
 

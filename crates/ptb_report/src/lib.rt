@@ -1,7 +1,7 @@
 //! How the report of a run is written: what it took, how it ended, and what it showed. A list of
 //! answers is written as reports show it.
 //!
-//! It stands on `ptb_answers` for how answers are written, on `ptb_text` for the writer, and on
+//! It depends on `ptb_answers` for how answers are written, on `ptb_text` for the writer, and on
 //! `arrayvec` and `itoa`. The crate above may rely on `ReportWriter::write` and `write_list` (the writer
 //! takes the text of `specs/Report`, or a prefix of it where it fails).
 #![tactic(auto)]

@@ -13,14 +13,14 @@ use ptb_text::{DeviceFault, OutputBuffer, Write};
 // Bytes that wait to be written: on the stack, since a report takes no memory.
 type Pending = OutputBuffer<512>;
 
-// What stands in front of the item at a place.
+// What comes before the item at a place.
 fn separator(place: usize) -> &'static [u8]
     ensures { result.now ≡ (if place == 0 then [] else codes ",") }
 {
     if place == 0 { b"" } else { b"," }
 }
 
-// Adds an item to the pending bytes, behind a separator.
+// Adds an item to the pending bytes, after a separator.
 fn put_item<W: Write>(
     out: &mut W,
     pending: &mut Pending,

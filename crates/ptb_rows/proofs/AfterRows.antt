@@ -1,4 +1,4 @@
--- This file proves the worked rows of listings that begin behind a run, or end early, by computation.
+-- This file proves the worked rows of listings that begin after a run, or end early, by computation.
 -- Main lemma: `after_rows`.
 use Rattle.std.specs.Prelude.{refl}
 use Rattle.ptb_rows.specs.Rows.{AfterRows}

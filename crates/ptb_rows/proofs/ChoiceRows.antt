@@ -1,4 +1,4 @@
--- This file proves the worked rows of answers in place of missing lines by computation.
+-- This file proves the worked rows of answers instead of missing lines by computation.
 -- Main lemma: `choice_rows`.
 use Rattle.std.specs.Prelude.{refl}
 use Rattle.ptb_rows.specs.Rows.{ChoiceRows}

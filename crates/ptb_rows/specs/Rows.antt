@@ -42,7 +42,7 @@ text lines = flat_map (λ l. l ++ 10 ∷ []) lines
 abbrev pub one_line : List ℕ → List ℕ
 one_line l = text (l ∷ [])
 
--- the rules of a request that gives neither steps nor a bound for answers in place of lines
+-- the rules of a request that gives neither steps nor a bound for answers instead of lines
 abbrev pub default_rules : Rules
 default_rules = record { limit = default_steps; choose = None; in_range = tt }
 
@@ -119,7 +119,7 @@ sampling seed runs form = record {
   in_range = default_size;
 }
 
--- all runs, or the first n of those behind a run
+-- all runs, or the first n of those after a run
 abbrev pub all_in : Form → Option (List Marked) → Option ℕ → Request
 all_in form after first = record {
   rules = default_rules;
@@ -135,8 +135,8 @@ all_from after first = all_in One (option_map unmarked after) first
 abbrev pub all : Request
 all = all_from None None
 
-abbrev pub behind : List ℤ → Request
-behind a = all_from (Some a) None
+abbrev pub listed_after : List ℤ → Request
+listed_after a = all_from (Some a) None
 
 abbrev pub list : Request
 list = record { rules = default_rules; memory = default_memory; mode = modes.List; in_range = default_size }
@@ -233,7 +233,7 @@ pub record SeedRows : Type 0 where
   pub limit : reply_to (limited 5 (seeded 7)) (codes "10 A=RND(2);GOTO 10") [] ≡ run_end [] 4
   pub refused : reply_to (seeded 7) (codes "0 P.") [] ≡ refusal (notes.Load 1 NoNumber)
 
--- answers that stand in place of missing lines
+-- answers instead of missing lines
 pub record ChoiceRows : Type 0 where
   pub each_answer : reply_to (choosing (pos 2) (le_z_yes tt) all) (codes "10 INPUT A;PRINT A") [] ≡ success
       (codes "RUN 1 END 2 11\nA:1\n     1\n\nRUN 2 END 2 11\nA:2\n     2\n\n")
@@ -264,11 +264,11 @@ pub record ChoiceRows : Type 0 where
   -- with the steps of a limit
   pub limit : reply_to (record all { rules = record { limit = 1; choose = Some (pos 2); in_range = le_z_yes tt } })
       (codes "10 INPUT A;PRINT A") [] ≡ success (codes "RUN 1 LIMIT 1 4\nA:1\n\nRUN 2 LIMIT 1 4\nA:2\n\n")
-  pub after_first : reply_to (choosing (pos 2) (le_z_yes tt) (behind (pos 1 ∷ [])))
+  pub after_first : reply_to (choosing (pos 2) (le_z_yes tt) (listed_after (pos 1 ∷ [])))
       (codes "10 INPUT A;PRINT A") [] ≡ success (codes "RUN 2 END 2 11\nA:2\n     2\n\n")
   pub first_one : reply_to (choosing (pos 2) (le_z_yes tt) (all_from None (Some 1)))
       (codes "10 INPUT A;PRINT A") [] ≡ success (codes "RUN 1 END 2 11\nA:1\n     1\n\n")
-  pub after_none : reply_to (choosing (pos 2) (le_z_yes tt) (behind (pos 3 ∷ [])))
+  pub after_none : reply_to (choosing (pos 2) (le_z_yes tt) (listed_after (pos 3 ∷ [])))
       (codes "10 INPUT A;PRINT A") [] ≡ refusal notes.NoRun
 
 -- programs that run once
@@ -358,26 +358,28 @@ pub record AllRows : Type 0 where
   pub calls_in_loops : reply_to all (codes "10 F.I=1TO1;GOS.10") [] ≡ success
       (codes "RUN none SORRY 257 26\nSORRY\n10 F.I=1TO1?;GOS.10\n\n")
 
--- the runs behind one of them, and the first of them
+-- the runs after one of them, and the first of them
 pub record AfterRows : Type 0 where
   pub first_two : reply_to (all_from None (Some 2)) (codes "10 PRINT RND(2)*RND(2)") [] ≡ success
       (codes "RUN 1,1 END 1 7\n     1\n\nRUN 1,2 END 1 7\n     2\n\n")
   pub two_after : reply_to (all_from (Some (pos 1 ∷ pos 1 ∷ [])) (Some 2)) (codes "10 PRINT RND(2)*RND(2)") [] ≡ success
       (codes "RUN 1,2 END 1 7\n     2\n\nRUN 2,1 END 1 7\n     2\n\n")
-  pub after_second : reply_to (behind (pos 2 ∷ pos 1 ∷ [])) (codes "10 A=RND(2);IF A=2 B=RND(3);PRINT B") [] ≡ success
+  pub after_second : reply_to (listed_after (pos 2 ∷ pos 1 ∷ []))
+      (codes "10 A=RND(2);IF A=2 B=RND(3);PRINT B") [] ≡ success
       (codes "RUN 2,2 END 4 7\n     2\n\nRUN 2,3 END 4 7\n     3\n\n")
-  pub after_last : reply_to (behind (pos 2 ∷ pos 3 ∷ [])) (codes "10 A=RND(2);IF A=2 B=RND(3);PRINT B") [] ≡ success []
-  pub beginning_of_run : reply_to (behind (pos 2 ∷ []))
+  pub after_last : reply_to (listed_after (pos 2 ∷ pos 3 ∷ []))
+      (codes "10 A=RND(2);IF A=2 B=RND(3);PRINT B") [] ≡ success []
+  pub beginning_of_run : reply_to (listed_after (pos 2 ∷ []))
       (codes "10 A=RND(2);IF A=2 B=RND(3);PRINT B") [] ≡ refusal notes.NoRun
-  pub outside : reply_to (behind (pos 2 ∷ pos 4 ∷ []))
+  pub outside : reply_to (listed_after (pos 2 ∷ pos 4 ∷ []))
       (codes "10 A=RND(2);IF A=2 B=RND(3);PRINT B") [] ≡ refusal notes.NoRun
-  pub too_long : reply_to (behind (pos 2 ∷ pos 1 ∷ pos 1 ∷ []))
+  pub too_long : reply_to (listed_after (pos 2 ∷ pos 1 ∷ pos 1 ∷ []))
       (codes "10 A=RND(2);IF A=2 B=RND(3);PRINT B") [] ≡ refusal notes.NoRun
-  pub after_shorter : reply_to (behind (pos 1 ∷ [])) (codes "10 A=RND(2);IF A=2 B=RND(3);PRINT B") [] ≡ success
+  pub after_shorter : reply_to (listed_after (pos 1 ∷ [])) (codes "10 A=RND(2);IF A=2 B=RND(3);PRINT B") [] ≡ success
       (codes "RUN 2,1 END 4 7\n     1\n\nRUN 2,2 END 4 7\n     2\n\nRUN 2,3 END 4 7\n     3\n\n")
-  pub greatest : reply_to (behind (pos 32767 ∷ [])) (codes "10 P.RND(2)") [] ≡ refusal notes.NoRun
-  pub after_only : reply_to (behind []) [] [] ≡ success []
-  pub empty_list : reply_to (behind []) (codes "10 P.RND(2)") [] ≡ refusal notes.NoRun
+  pub greatest : reply_to (listed_after (pos 32767 ∷ [])) (codes "10 P.RND(2)") [] ≡ refusal notes.NoRun
+  pub after_only : reply_to (listed_after []) [] [] ≡ success []
+  pub empty_list : reply_to (listed_after []) (codes "10 P.RND(2)") [] ≡ refusal notes.NoRun
   pub fewer_left : reply_to (all_from (Some (pos 1 ∷ [])) (Some 5)) (codes "10 P.RND(2)") [] ≡ success
       (codes "RUN 2 END 1 7\n     2\n\n")
 
@@ -385,7 +387,7 @@ pub record AfterRows : Type 0 where
 abbrev pub bounds_later : List Marked → Request
 bounds_later list = all_in Two (Some list) None
 
--- reports with bounds, and lists to go on behind in which bounds stand
+-- reports with bounds, and listings after runs that are named with bounds
 pub record BoundRows : Type 0 where
   pub roll_after_if : reply_to (all_in Two None None) (codes "10 A=RND(2);IF A=2 B=RND(3);PRINT B") [] ≡ success (
       codes "RUN 1/2 END 2 0\n\nRUN 2/2,1/3 END 4 7\n     1\n\n"
@@ -427,7 +429,7 @@ pub record SampleRows : Type 0 where
       (codes "RUN none END 0 0\n\n" ++ codes "RUN none END 0 0\n\n")
   pub refused : reply_to (sampling 7 3 Two) (codes "0 P.") [] ≡ refusal (notes.Load 1 NoNumber)
 
--- the runs that begin with these answers, or the first n of those behind one of them
+-- the runs that begin with these answers, or the first n of those after one of them
 abbrev pub under : List Marked → Option (List Marked) → Option ℕ → Request
 under list after first = record {
   rules = default_rules;
@@ -481,8 +483,8 @@ pub record RefusalRows : Type 0 where
       ∷ codes "8 P.1" ∷ codes "9 P.1" ∷ codes "10 P.1" ∷ codes "11 P.1" ∷ [])) [] ≡ refusal (notes.Load 11 Full)
   pub long_text : reply_to (run []) (codes "10 A=" ++ replicate 254 57) [] ≡ refusal (notes.Load 1 TextTooLong)
   pub long_number : reply_to (run []) (replicate 200 57 ++ codes " P.") [] ≡ refusal (notes.Load 1 NumberTooBig)
-  -- a refusal comes before the list to begin behind is looked at
-  pub all_runs : reply_to (behind (pos 9 ∷ [])) (codes "0 P.") [] ≡ refusal (notes.Load 1 NoNumber)
+  -- a refusal comes before the run to begin after is looked at
+  pub all_runs : reply_to (listed_after (pos 9 ∷ [])) (codes "0 P.") [] ≡ refusal (notes.Load 1 NoNumber)
   pub second_line : reply_to list (text (codes "10 P.1" ∷ codes "P.2" ∷ [])) [] ≡ refusal (notes.Load 2 NoNumber)
 
 pub record ListingRows : Type 0 where
@@ -496,7 +498,7 @@ pub record ListingRows : Type 0 where
 
 -- ---- the command line
 
--- the words behind the program's name
+-- the arguments after the program's name
 abbrev pub line : List (List ℕ) → List (List ℕ)
 line words = codes "ptb" ∷ words
 

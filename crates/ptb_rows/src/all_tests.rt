@@ -12,8 +12,8 @@ use std::alloc::{AllocError, Global};
 use std::process::Abort;
 use std::test::Fail;
 
-// A program with its input and the most commands of a run, the bound for answers in place of lines,
-// the answers with which its listed runs begin, the run behind which its listing begins, how many
+// A program with its input and the most commands of a run, the bound for answers instead of lines,
+// the answers with which its listed runs begin, the run after which its listing begins, how many
 // reports it has at most, and their form.
 #[derive(Clone, Copy)]
 struct Asked<'a> {
@@ -95,7 +95,8 @@ const ALL: Asked<'static> = Asked {
     form: Form::One,
 };
 
-// Such a request for a program, but for what is told behind it. Rows of constants can't call functions.
+// Such a request for a program, except for the fields given after it. Rows of constants can't call
+// functions.
 macro_rules! all_of {
     ($program:expr $(, $field:ident = $value:expr)*) => {
         Asked {
@@ -137,7 +138,7 @@ fn served_to(alloc: Global, asked: &Asked<'_>, sink: &mut Sink) -> Result<Outcom
     Ok(serve(alloc, &request, &mut program, &mut input, &mut out))
 }
 
-// What a listing comes to with a writer that takes some bytes a call.
+// The result of a listing with a writer that takes some bytes a call.
 fn served(
     alloc: Global,
     asked: &Asked<'_>,
@@ -157,9 +158,9 @@ const TWO_ROLLS: &[u8] = b"10 PRINT RND(2)*RND(2)";
 const TWO_ROLLS_TEXT: &[u8] = b"RUN 1,1 END 1 7\n     1\n\nRUN 1,2 END 1 7\n     2\n\n\
 RUN 2,1 END 1 7\n     2\n\nRUN 2,2 END 1 7\n     4\n\n";
 
-const ROLL_BEHIND_IF: &[u8] = b"10 A=RND(2);IF A=2 B=RND(3);PRINT B";
+const ROLL_AFTER_IF: &[u8] = b"10 A=RND(2);IF A=2 B=RND(3);PRINT B";
 
-const ROLL_BEHIND_IF_TEXT: &[u8] = b"RUN 1 END 2 0\n\nRUN 2,1 END 4 7\n     1\n\n\
+const ROLL_AFTER_IF_TEXT: &[u8] = b"RUN 1 END 2 0\n\nRUN 2,1 END 4 7\n     1\n\n\
 RUN 2,2 END 4 7\n     2\n\nRUN 2,3 END 4 7\n     3\n\n";
 
 const FAULTY: &[u8] = b"10 A=RND(2)-1;B=RND(A)";
@@ -211,7 +212,7 @@ const ALL_RUNS: Listings<'static> = &[
     (ALL, b"RUN none END 0 0\n\n"),
     (all_of!(ONE_ROLL), ONE_ROLL_TEXT),
     (all_of!(TWO_ROLLS), TWO_ROLLS_TEXT),
-    (all_of!(ROLL_BEHIND_IF), ROLL_BEHIND_IF_TEXT),
+    (all_of!(ROLL_AFTER_IF), ROLL_AFTER_IF_TEXT),
     (all_of!(FAULTY), FAULTY_TEXT),
     (all_of!(b"10 GOTO 10", steps = 5), b"RUN none LIMIT 5 0\n\n"),
     (
@@ -238,7 +239,7 @@ fn all_runs(rt: HostRuntime) -> Result<(), Fail> {
     Ok(())
 }
 
-// A program that takes an answer from 1 to 2 in place of a line.
+// A program that takes an answer from 1 to 2 instead of a line.
 const NO_LINE: Asked<'static> = all_of!(b"10 INPUT A;PRINT A", choose = Some(2));
 
 const RUNS_WITHOUT_LINES: Listings<'static> = &[
@@ -304,8 +305,8 @@ fn most_answers(rt: HostRuntime) -> Result<(), Fail> {
     Ok(())
 }
 
-// Programs, the run behind which a listing begins, how many reports it has at most, and its text.
-const RUNS_BEHIND_A_RUN: &[(&[u8], Option<&[Marked]>, Option<u64>, &[u8])] = &[
+// Programs, the run after which a listing begins, how many reports it has at most, and its text.
+const RUNS_AFTER_A_RUN: &[(&[u8], Option<&[Marked]>, Option<u64>, &[u8])] = &[
     (
         TWO_ROLLS,
         Some(&[ONE, ONE]),
@@ -321,12 +322,12 @@ const RUNS_BEHIND_A_RUN: &[(&[u8], Option<&[Marked]>, Option<u64>, &[u8])] = &[
     (TWO_ROLLS, None, Some(4), TWO_ROLLS_TEXT),
     (TWO_ROLLS, None, Some(1_000_000_000), TWO_ROLLS_TEXT),
     (
-        ROLL_BEHIND_IF,
+        ROLL_AFTER_IF,
         Some(&[TWO, ONE]),
         None,
         b"RUN 2,2 END 4 7\n     2\n\nRUN 2,3 END 4 7\n     3\n\n",
     ),
-    (ROLL_BEHIND_IF, Some(&[TWO, THREE]), None, b""),
+    (ROLL_AFTER_IF, Some(&[TWO, THREE]), None, b""),
     (b"", Some(&[]), None, b""),
     (
         ONE_ROLL,
@@ -336,27 +337,27 @@ const RUNS_BEHIND_A_RUN: &[(&[u8], Option<&[Marked]>, Option<u64>, &[u8])] = &[
     ),
 ];
 
-// Listings behind a run, or of the first runs: what is written, with status 0.
+// Listings after a run, or of the first runs: what is written, with status 0.
 #[test]
 fn runs_after_a_run(rt: HostRuntime) -> Result<(), Fail> {
-    for &(program, after, first, text) in RUNS_BEHIND_A_RUN {
+    for &(program, after, first, text) in RUNS_AFTER_A_RUN {
         let asked = all_of!(program, after = after, first = first);
         expect_listing(&rt, rt.alloc(), &asked, 100, text)?;
     }
     Ok(())
 }
 
-const ROLL_BEHIND_IF_BOUNDS: &[u8] = b"RUN 1/2 END 2 0\n\nRUN 2/2,1/3 END 4 7\n     1\n\n\
+const ROLL_AFTER_IF_BOUNDS: &[u8] = b"RUN 1/2 END 2 0\n\nRUN 2/2,1/3 END 4 7\n     1\n\n\
 RUN 2/2,2/3 END 4 7\n     2\n\nRUN 2/2,3/3 END 4 7\n     3\n\n";
 
 const SECOND_WITH_A_BOUND: &[Marked] = &[TWO_OF_2, ONE];
 
 const THIRD_WITH_BOUNDS: &[Marked] = &[TWO_OF_2, TWO_OF_3];
 
-const IN_FORM_TWO: Asked<'static> = all_of!(ROLL_BEHIND_IF, form = Form::Two);
+const IN_FORM_TWO: Asked<'static> = all_of!(ROLL_AFTER_IF, form = Form::Two);
 
 const RUNS_WITH_BOUNDS: Listings<'static> = &[
-    (IN_FORM_TWO, ROLL_BEHIND_IF_BOUNDS),
+    (IN_FORM_TWO, ROLL_AFTER_IF_BOUNDS),
     (
         Asked {
             after: Some(SECOND_WITH_A_BOUND),
@@ -372,7 +373,7 @@ const RUNS_WITH_BOUNDS: Listings<'static> = &[
         b"RUN 1/2 END 2 0\n\n",
     ),
     (
-        all_of!(ROLL_BEHIND_IF, after = Some(THIRD_WITH_BOUNDS)),
+        all_of!(ROLL_AFTER_IF, after = Some(THIRD_WITH_BOUNDS)),
         b"RUN 2,3 END 4 7\n     3\n\n",
     ),
     (
@@ -384,7 +385,8 @@ const RUNS_WITH_BOUNDS: Listings<'static> = &[
     ),
 ];
 
-// In form 2 each answer is followed by its bound. Lists to go on behind may have bounds in either form.
+// In form 2 each answer is followed by its bound. The run to continue after may be named with
+// bounds in either form.
 #[test]
 fn runs_with_bounds(rt: HostRuntime) -> Result<(), Fail> {
     expect_listings(&rt, rt.alloc(), RUNS_WITH_BOUNDS)?;
@@ -392,14 +394,14 @@ fn runs_with_bounds(rt: HostRuntime) -> Result<(), Fail> {
 }
 
 const NO_RUNS: &[(&[u8], &[Marked])] = &[
-    (ROLL_BEHIND_IF, &[TWO]),
-    (ROLL_BEHIND_IF, &[TWO, FOUR]),
-    (ROLL_BEHIND_IF, &[TWO, ONE, ONE]),
+    (ROLL_AFTER_IF, &[TWO]),
+    (ROLL_AFTER_IF, &[TWO, FOUR]),
+    (ROLL_AFTER_IF, &[TWO, ONE, ONE]),
     (ONE_ROLL, &[]),
     (ONE_ROLL, &[GREATEST]),
     // a run, and a bound that none of its questions has there
-    (ROLL_BEHIND_IF, &[TWO_OF_3, ONE_OF_3]),
-    (ROLL_BEHIND_IF, &[TWO_OF_2, ONE_OF_2]),
+    (ROLL_AFTER_IF, &[TWO_OF_3, ONE_OF_3]),
+    (ROLL_AFTER_IF, &[TWO_OF_2, ONE_OF_2]),
     (ONE_ROLL, &[ONE_OF_1]),
 ];
 
@@ -413,13 +415,14 @@ fn runs_after_no_run(rt: HostRuntime) -> Result<(), Fail> {
     Ok(())
 }
 
-// What a listing in form 1 of the runs that begin with a list comes to, behind one of them if it is named.
+// The result of a listing in form 1 of the runs that begin with a list, after one of them if it is
+// named.
 fn share_of<'a>(
     alloc: Global,
     list: &'a [Marked],
     after: Option<&'a [Marked]>,
 ) -> Result<(Outcome, Vec<u8>), AllocError> {
-    let asked = all_of!(ROLL_BEHIND_IF, under = Some(list), after = after);
+    let asked = all_of!(ROLL_AFTER_IF, under = Some(list), after = after);
     served(alloc, &asked, 100)
 }
 
@@ -437,7 +440,7 @@ fn shares_of_a_tree(rt: HostRuntime) -> Result<(), Fail> {
     for &(list, after, from, to) in SHARES {
         let (outcome, bytes) = share_of(rt.alloc(), list, after)?;
         let found = (outcome.status, outcome.note, Some(bytes.as_slice()));
-        expect_same(&rt, found, (0, None, ROLL_BEHIND_IF_TEXT.get(from..to)));
+        expect_same(&rt, found, (0, None, ROLL_AFTER_IF_TEXT.get(from..to)));
     }
     Ok(())
 }
@@ -462,7 +465,7 @@ fn shares_of_no_run(rt: HostRuntime) -> Result<(), Fail> {
 // The runs of these programs, in order, with their bounds here and there.
 const ONE_ROLL_RUNS: &[&[Marked]] = &[&[ONE], &[TWO_OF_2]];
 
-const ROLL_BEHIND_IF_RUNS: &[&[Marked]] = &[
+const ROLL_AFTER_IF_RUNS: &[&[Marked]] = &[
     &[ONE],
     &[TWO, ONE],
     &[TWO_OF_2, TWO],
@@ -479,9 +482,9 @@ const LIMITED_RUNS: &[&[Marked]] = &[&[ONE], &[TWO]];
 const IN_TWO_PARTS: &[(Asked<'static>, &[u8], &[&[Marked]])] = &[
     (all_of!(ONE_ROLL), ONE_ROLL_TEXT, ONE_ROLL_RUNS),
     (
-        all_of!(ROLL_BEHIND_IF),
-        ROLL_BEHIND_IF_TEXT,
-        ROLL_BEHIND_IF_RUNS,
+        all_of!(ROLL_AFTER_IF),
+        ROLL_AFTER_IF_TEXT,
+        ROLL_AFTER_IF_RUNS,
     ),
     (all_of!(FAULTY), FAULTY_TEXT, FAULTY_RUNS),
     (
@@ -492,7 +495,7 @@ const IN_TWO_PARTS: &[(Asked<'static>, &[u8], &[&[Marked]])] = &[
     (all_of!(LIMITED, steps = 1), LIMITED_TEXT, LIMITED_RUNS),
 ];
 
-// The first reports of a listing, up to a run, and behind it those that are listed behind this run.
+// The first reports of a listing, up to a run, and then those that are listed after this run.
 fn joined(
     alloc: Global,
     asked: &Asked<'_>,
@@ -507,7 +510,7 @@ fn joined(
     Ok(bytes)
 }
 
-// A listing may end at each of its runs, and go on behind it.
+// A listing may end at each of its runs, and continue after it.
 fn expect_two_parts(
     rt: &impl Abort,
     alloc: Global,
@@ -524,7 +527,7 @@ fn expect_two_parts(
     Ok(())
 }
 
-// What is listed up to a run, and what is listed behind it, is the whole listing.
+// What is listed up to a run, and what is listed after it, is the complete listing.
 #[test]
 fn listings_in_two_parts(rt: HostRuntime) -> Result<(), Fail> {
     for (asked, text, runs) in IN_TWO_PARTS {
@@ -533,8 +536,8 @@ fn listings_in_two_parts(rt: HostRuntime) -> Result<(), Fail> {
     Ok(())
 }
 
-// The listing of two rolls to a writer that takes five bytes a call, and fails behind so many calls, is
-// the beginning of this length.
+// The listing of two rolls to a writer that takes five bytes a call, and fails after so many calls,
+// is the prefix of this length.
 fn expect_broken_off(
     rt: &impl Abort,
     alloc: Global,
@@ -567,7 +570,7 @@ fn listings_that_break_off(rt: HostRuntime) -> Result<(), Fail> {
     Ok(())
 }
 
-// The listing of a program whose input fails behind these bytes.
+// The listing of a program whose input fails after these bytes.
 fn reply_on_unread_input(
     alloc: Global,
     program: &[u8],

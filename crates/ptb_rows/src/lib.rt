@@ -1,6 +1,6 @@
-//! Worked rows of the whole tool: what requests and command lines come to, by the definitions.
+//! Worked rows of the complete tool: the results of requests and command lines, by the definitions.
 //!
-//! It stands on `ptb_serve`, `ptb_options`, the crates below them and `clap`. No crate stands on
+//! It depends on `ptb_serve`, `ptb_options`, the crates below them and `clap`. No crate depends on
 //! it. Its rows hold of the definitions; its tests run `serve` on them, over readers and writers
 //! that move few bytes, fail, or never end.
 #![tactic(auto)]

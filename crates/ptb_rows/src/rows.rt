@@ -30,7 +30,7 @@ pub fn sample_rows()
     ensures { SampleRows }
 {}
 
-/// Worked rows of answers in place of missing lines.
+/// Worked rows of answers instead of missing lines.
 #[tactic(auto, using(crate::proofs::ChoiceRows::choice_rows))]
 pub fn choice_rows()
     ensures { ChoiceRows }
@@ -60,7 +60,7 @@ pub fn all_rows()
     ensures { AllRows }
 {}
 
-/// Worked rows of listings that begin behind a run, or end early.
+/// Worked rows of listings that begin after a run, or end early.
 #[tactic(auto, using(crate::proofs::AfterRows::after_rows))]
 pub fn after_rows()
     ensures { AfterRows }

@@ -99,7 +99,7 @@ pub(crate) fn expect_same<T: Copy + PartialEq + Debug>(rt: &impl Abort, found: T
     assert_eq!(rt; found, wanted);
 }
 
-// What a request came to and what was written: this status with this note, and these bytes.
+// The result of a request and what was written: this status with this note, and these bytes.
 pub(crate) fn expect_reply(
     rt: &impl Abort,
     reply: (Outcome, Vec<u8>),
@@ -111,7 +111,7 @@ pub(crate) fn expect_reply(
     expect_same(rt, found, (due.0, due.1, bytes));
 }
 
-// What a request comes to with a writer that takes some bytes a call, and what is written.
+// The result of a request with a writer that takes some bytes a call, and what is written.
 pub(crate) fn reply_to<P: Read, R: Read>(
     alloc: Global,
     request: &Request,
@@ -125,7 +125,7 @@ pub(crate) fn reply_to<P: Read, R: Read>(
     (outcome, sink.taken)
 }
 
-// What a request comes to whose input is endless, what is written, and how much was read.
+// The result of a request whose input is endless, what is written, and how much was read.
 pub(crate) fn reply_on_endless_input(
     alloc: Global,
     request: &Request,
@@ -181,8 +181,8 @@ const RUN: Row<'static> = Row {
     note: None,
 };
 
-// Such a run of a program with the bytes and the status that are due, but for what is told behind
-// them. Rows of constants can't call functions.
+// Such a run of a program with the bytes and the status that are due, except for the fields given
+// after them. Rows of constants can't call functions.
 macro_rules! row {
     ($program:expr, $bytes:expr, $status:expr $(, $field:ident = $value:expr)*) => {
         Row {
@@ -397,7 +397,7 @@ const CHECKS: &[Row<'static>] = &[
         1,
         asked = Asked::Check
     ),
-    // whatever stands after REM, and mistakes of the input
+    // whatever is after REM, and mistakes of the input
     row!(
         b"10 REM GOTO 99;(\n20 INPUT A",
         b"",
@@ -757,23 +757,23 @@ fn refused_programs(rt: HostRuntime) -> Result<(), Fail> {
     Ok(())
 }
 
-// A byte so often, with text before it and behind it.
+// A byte so often, with text before it and after it.
 fn long_text(
     alloc: Global,
     before: &[u8],
     byte: u8,
     count: usize,
-    behind: &[u8],
+    following: &[u8],
 ) -> Result<Vec<u8>, AllocError> {
     let mut text = Vec::from_slice(alloc, before)?;
     for _ in 0..count {
         text.push(byte)?;
     }
-    text.extend_from_slice(behind)?;
+    text.extend_from_slice(following)?;
     Ok(text)
 }
 
-// Text, a byte so often, and text behind it; and why that is refused.
+// Text, a byte so often, and text after it; and why that is refused.
 const LONG_PROGRAMS: &[(&[u8], u8, usize, &[u8], Note)] = &[
     (
         b"",
@@ -814,14 +814,14 @@ fn expect_refused(
 
 #[test]
 fn refused_long_programs(rt: HostRuntime) -> Result<(), Fail> {
-    for &(before, byte, count, behind, note) in LONG_PROGRAMS {
-        let text = long_text(rt.alloc(), before, byte, count, behind)?;
+    for &(before, byte, count, following, note) in LONG_PROGRAMS {
+        let text = long_text(rt.alloc(), before, byte, count, following)?;
         expect_refused(&rt, rt.alloc(), &text, note)?;
     }
     Ok(())
 }
 
-// What a row comes to whose program can't be read behind its bytes.
+// The result of a row whose program can't be read after its bytes.
 fn reply_to_unread(alloc: Global, row: &Row<'_>) -> Result<(Outcome, Vec<u8>), AllocError> {
     let request = request_of(alloc, row)?;
     let mut program = Device::new(Script {
@@ -843,7 +843,7 @@ fn expect_unread(rt: &impl Abort, alloc: Global, program: &[u8]) -> Result<(), A
     Ok(())
 }
 
-// A reader of the program that fails, at once or behind its first bytes.
+// A reader of the program that fails, at once or after its first bytes.
 #[test]
 fn unread_programs(rt: HostRuntime) -> Result<(), Fail> {
     expect_unread(&rt, rt.alloc(), b"")?;
@@ -852,7 +852,7 @@ fn unread_programs(rt: HostRuntime) -> Result<(), Fail> {
     Ok(())
 }
 
-// What a request comes to whose program is endless, what is written, and how much was read.
+// The result of a request whose program is endless, what is written, and how much was read.
 fn reply_on_endless_program(
     alloc: Global,
     row: &Row<'_>,
@@ -1143,7 +1143,7 @@ fn answers_in_place_of_lines(rt: HostRuntime) -> Result<(), Fail> {
     Ok(())
 }
 
-// What a row comes to whose input gives some bytes a call, and fails behind these.
+// The result of a row whose input gives some bytes a call, and fails after these.
 fn reply_on_unread_input(
     alloc: Global,
     row: &Row<'_>,
@@ -1160,7 +1160,7 @@ fn reply_on_unread_input(
     Ok(reply_to(alloc, &request, &mut program, &mut input, 1))
 }
 
-// Programs, the bytes behind which their input fails, the status, and what is shown.
+// Programs, the bytes after which their input fails, the status, and what is shown.
 const UNREAD_INPUTS: &[(&[u8], &[u8], u8, &[u8])] = &[
     (b"10 PRINT \"HI\"", b"", 0, b"HI\n"),
     (b"10 INPUT A", b"5\n", 0, b"A:5\n"),
@@ -1170,10 +1170,10 @@ const UNREAD_INPUTS: &[(&[u8], &[u8], u8, &[u8])] = &[
     (b"10 INPUT A", b"5", 66, b"A:"),
 ];
 
-// How many bytes are read at most, and the bound for answers in place of lines.
+// How many bytes are read at most, and the bound for answers instead of lines.
 const READINGS: &[(usize, Option<i16>)] = &[(1, None), (5000, None), (1, Some(9)), (5000, Some(9))];
 
-// However the input of a row is read, it fails behind these bytes.
+// However the input of a row is read, it fails after these bytes.
 fn expect_unread_input(
     rt: &impl Abort,
     alloc: Global,

@@ -105,7 +105,7 @@ module _ (game : Answers → Outcome Finish (List ℕ)) (under after : Option (L
         | inr b ↦ subst (λ m. IsUnloaded (Some m)) b h
       ]
 
-  -- of a listing that isn't begun a note says nothing else
+  -- a note about a listing that isn't started says nothing else
   pub front_note-other : (note other : Note) → (note ≡ notes.OutOfMemory) ⊎ (front_note game under after ≡ Some note)
       → (other ≡ notes.OutOfMemory → ⊥) → (other ≡ notes.NoBeginning → ⊥) → (other ≡ notes.NoRun → ⊥)
       → IsErrOf {T = ℕ} (Err note) other → ⊥
@@ -253,7 +253,7 @@ module _ (p : StoredProgram) (rules : Rules) (under after : Option (List Marked)
     }
     writes_fewer input f (explores.Write n) w refused = absurd cc
 
-    -- by the bytes of the input, of which the lines are those that were read, and an explorer that went on from its
+    -- by the bytes of the input, of which the lines are those that were read, and an explorer that continued from its
     -- front
     module _ (c : List ℕ) (input : List (List ℕ)) (is : input ≡ input_lines c) (e : Exploration) (f : Front)
         (same : e ≡ record {

@@ -109,7 +109,7 @@ module _ (request : Request) (p : StoredProgram) (memory : p.memory ≡ request.
     listing_unbegun held broke (NotARun m) x = unbegun_noted held broke (mismatch_note (After m)) (inr x.0)
     listing_unbegun held broke Memory x = unbegun_noted held broke notes.OutOfMemory (inl refl)
 
-    -- an explorer went on from its front
+    -- an explorer continued from its front
     module _ (old new : Option (List ℕ)) (broke breaks : ℕ) (e : Exploration) (f : Front)
         (same : e ≡ record {
           program = p;

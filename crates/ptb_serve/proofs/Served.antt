@@ -404,7 +404,7 @@ module _ (run : List (List ℕ) → List ℕ × Ending) (known : Option (List �
 
 -- ---- an input that can't be read
 
--- on the lines that came complete a run ends for want of a line, or asks for an answer
+-- on the lines that came complete a run ends for lack of a line, or asks for an answer
 module _ (memory : ℕ) (choose : Option ℤ) (run : StoredProgram → List (List ℕ) → Answers → List ℕ × Ending)
     (given : StoredProgram → List (List ℕ) → Answers) (p : StoredProgram) (i j old new : Option (List ℕ)) where
   abbrev unread_run : StoredProgram → List (List ℕ) → Reply

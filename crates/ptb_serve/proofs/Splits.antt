@@ -124,7 +124,7 @@ module _ (request : Request) (p : StoredProgram) (memory : p.memory ≡ request.
         shares_serve held held (Err (input_note fault))
         (unread_due shares reply (Fewer held held) i held (Appends-nil held) tt fault)
 
-  -- a search went on from its front, and is dropped
+  -- a search continued from its front, and is dropped
   module _ (input : List (List ℕ)) (s : Splitting) (f : Front) (same : s ≡ record {
     program = p;
     input = input;

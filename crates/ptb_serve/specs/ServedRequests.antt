@@ -64,7 +64,7 @@ abbrev pub outcome_of : Result ℕ Note → Outcome
 outcome_of (Ok status) = record { status = status; note = None; mismatch = None; line = None }
 outcome_of (Err note) = record { status = note_status note; note = Some note; mismatch = None; line = None }
 
--- a line that is refused is no want of memory, and no fault of the reader
+-- a line that is refused is no lack of memory, and no fault of the reader
 abbrev pub load_fault_note : ℕ → LoadFault → Note
 load_fault_note line loads.Memory = notes.OutOfMemory
 load_fault_note line loads.Read = notes.ProgramUnread
@@ -178,12 +178,12 @@ StopsForMemory modes.List request b c old new = Unit {0}
 StopsForMemory modes.Check request b c old new = Unit {0}
 StopsForMemory modes.Chances request b c old new = Unit {0}
 
--- its bytes were written, and its status is that of a run which ends for want of a line
+-- its bytes were written, and its status is that of a run which ends for lack of a line
 pub record LacksInputLine (reply : Reply) (old new : Option (List ℕ)) : Type 0 where
   pub bytes : Appends old new reply.bytes
   pub status : reply.status ≡ status endings.NoInput
 
--- a prefix of its bytes was written: all bytes of one of the other replies, of a run that ends for want of an answer
+-- a prefix of its bytes was written: all bytes of one of the other replies, of a run that ends for lack of an answer
 pub record AsksUnread (reply : Reply) (others : Answers → Reply) (old new : Option (List ℕ)) : Type 0 where
   pub begins : TakesSome old new reply.bytes
   pub asked : Answers
@@ -266,7 +266,7 @@ TellsLength old new None = Unit {0}
 
 -- ---- the input
 
--- one more where the run ended for want of a line, or the next could not be read
+-- one more where the run ended for lack of a line, or the next could not be read
 abbrev pub note_wanted : ℕ → Option Note → ℕ → ℕ
 note_wanted k None number = if number == status endings.NoInput then k + 1 else k
 note_wanted k (Some notes.InputUnread) number = k + 1

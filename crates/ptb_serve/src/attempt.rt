@@ -39,8 +39,8 @@ impl Attempt {
         }
     }
 
-    // The attempt of a listing that is not begun. A list that fits no run is refused, and never for want
-    // of memory.
+    // The attempt of a listing that is not started. A list that fits no run is refused, and never
+    // for lack of memory.
     pub(crate) fn unbegun(why: OpenFault) -> Attempt
         ensures { result ≡ unbegun_attempt why }
     {

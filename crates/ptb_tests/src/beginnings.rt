@@ -185,7 +185,7 @@ fn refused_lists_end_with_a_line(rt: HostRuntime) -> Result<(), Fail> {
     let count = match write_four(rt.alloc(), &program, &lines, &mut room[..]) {
         Ok(count) => count,
         Err(ExploreFault::Memory(count)) => {
-            println!(rt; "refused behind {count}")?;
+            println!(rt; "refused after {count}")?;
             count
         }
         Err(ExploreFault::Write(_)) => return Err(Fail::from("not written")),

@@ -584,8 +584,8 @@ fn is_list(found: &Option<MarkedAnswers>, wanted: Option<&[Marked]>) -> bool {
     }
 }
 
-// Whether a line asks for a listing of this share, which begins behind this run; and how many reports
-// it has at most, and their form.
+// Whether a line asks for a listing of this share, which begins after this run; and how many
+// reports it has at most, and their form.
 fn listing(
     alloc: Global,
     line: &str,

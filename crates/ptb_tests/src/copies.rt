@@ -8,8 +8,8 @@ use std::alloc::{AllocError, Global};
 use std::process::Abort;
 use std::test::Fail;
 
-// What is told of a run: its last answers, its steps, the copies that are kept then, and the steps
-// played in all runs so far.
+// What is expected of a run: its last answers, its steps, the copies that are kept then, and the
+// steps played in all runs so far.
 #[derive(Clone, Copy)]
 struct ExpectedRun<'a> {
     last: &'a [i16],
@@ -61,7 +61,7 @@ fn expect_no_next(rt: &impl Abort, explorer: &mut Explorer, played: u64) -> Resu
     Ok(())
 }
 
-// Goes to each of these runs, behind which there is no other, from the beginning on.
+// Goes to each of these runs, after which there is no other, from the beginning on.
 fn expect_runs(rt: &impl Abort, explorer: &mut Explorer, runs: &[ExpectedRun]) -> Result<(), Fail> {
     expect_counts(rt, explorer, 0, 0);
     let mut played = 0;
@@ -156,8 +156,8 @@ const MANY_QUESTIONS_RUNS: &[ExpectedRun<'static>] = &[
     },
 ];
 
-// More questions than copies: those with the fewest answers are dropped, and each run after the first
-// goes on from the newest copy that has the answers in front of the raised one.
+// More questions than copies: those with the fewest answers are dropped, and each run after the
+// first continues from the newest copy that has the answers before the raised one.
 #[test]
 fn more_questions_than_copies(rt: HostRuntime) -> Result<(), Fail> {
     let rules = plain_rules(10000);
@@ -191,7 +191,7 @@ const RUNS_WITHOUT_LINES: &[ExpectedRun<'static>] = &[
     },
 ];
 
-// An answer that stands in for a missing line is kept as any other: only what comes behind it is
+// An answer that stands in for a missing line is kept as any other: only what comes after it is
 // played again.
 #[test]
 fn answers_in_place_of_lines(rt: HostRuntime) -> Result<(), Fail> {
@@ -233,13 +233,13 @@ fn runs_of_different_lengths(rt: HostRuntime) -> Result<(), Fail> {
     expect_runs_of(&rt, rt.alloc(), text, rules, RUNS_OF_DIFFERENT_LENGTHS)
 }
 
-// A run comes to its end and shows this.
+// A run reaches its end and shows this.
 fn expect_end(rt: &impl Abort, report: &Report, shown: &str) {
     let found = (report.ending, report.transcript.as_slice());
     expect_same(rt, "a run", found, (Ending::End, shown.as_bytes()));
 }
 
-// Goes to the next run, which comes to its end and shows this.
+// Goes to the next run, which reaches its end and shows this.
 fn expect_shown(
     rt: &impl Abort,
     explorer: &mut Explorer,
@@ -254,7 +254,7 @@ fn expect_shown(
     Ok(())
 }
 
-// Goes to the first runs, told by what they show and by the steps played so far.
+// Goes to the first runs, identified by what they show and by the steps played so far.
 fn expect_all_shown(
     rt: &impl Abort,
     explorer: &mut Explorer,
@@ -286,7 +286,8 @@ const SHOWN: &[(&str, u64)] = &[
     ("A:3\nB:4\n     2\nC:5\n    10\n", 12),
 ];
 
-// A run that goes on from a copy shows what was shown before, and takes the lines behind those taken.
+// A run that continues from a copy shows what was shown before, and takes the lines after those
+// taken.
 #[test]
 fn lines_and_bytes_of_a_copy(rt: HostRuntime) -> Result<(), Fail> {
     let text = "10 INPUT A,B;P.RND(2);INPUT C;P.RND(2)*C";
@@ -319,7 +320,7 @@ fn is_next(explorer: &mut Explorer, taken: usize, last: &[i16], steps: u32) -> b
     false
 }
 
-// Whether the next runs are these, and no others, told by their last answers.
+// Whether the next runs are these, and no others, identified by their last answers.
 fn are_next(explorer: &mut Explorer, taken: usize, steps: u32, runs: &[&[i16]]) -> bool {
     for last in runs {
         if !is_next(explorer, taken, last, steps) {
@@ -344,7 +345,8 @@ fn has_runs_from(
     }
 }
 
-// Whether a program has these runs and no others, told by their last answers; or it has no memory.
+// Whether a program has these runs and no others, identified by their last answers; or it has no
+// memory.
 fn has_runs(alloc: Global, text: &str, taken: usize, steps: u32, runs: &[&[i16]]) -> bool {
     match loaded(alloc, text, "") {
         Ok((program, lines)) => has_runs_from(alloc, &program, &lines, taken, steps, runs),
@@ -376,7 +378,7 @@ fn expect_third(rt: &impl Abort, explorer: &mut Explorer) -> Result<(), Fail> {
     expect_next(rt, explorer, &THIRD_RUN)
 }
 
-// Goes behind the second of four runs, and to the third.
+// Goes past the second of four runs, and to the third.
 fn expect_after(
     rt: &impl Abort,
     alloc: Global,
@@ -391,14 +393,14 @@ fn expect_after(
     }
 }
 
-// Behind a run, too, the next one goes on from a copy.
+// After a run, too, the next one continues from a copy.
 #[test]
 fn after_a_run(rt: HostRuntime) -> Result<(), Fail> {
     let (program, lines) = loaded(rt.alloc(), MANY_QUESTIONS, "")?;
     expect_after(&rt, rt.alloc(), &program, &lines)
 }
 
-// Goes behind a run, of whose two answers the first is told with its bound; or there is no memory.
+// Goes past a run, of whose two answers the first is given with its bound; or there is no memory.
 fn expect_played(rt: &impl Abort, alloc: Global, program: &Program, lines: &[Line]) {
     match Explorer::after_marked(alloc, program, lines, plain_rules(10000), &[TWO_OF_2, ONE]) {
         Ok(explorer) => expect_same(rt, "steps played", explorer.played(), 2),
@@ -406,8 +408,8 @@ fn expect_played(rt: &impl Abort, alloc: Global, program: &Program, lines: &[Lin
     }
 }
 
-// Passes whichever of its allocations is refused: the list is a run with its bounds, so that nothing
-// but memory can be wanting.
+// Passes whichever of its allocations is refused: the list is a run with its bounds, so that only
+// memory can be missing.
 #[test]
 fn refused_after_a_run(rt: HostRuntime) {
     match loaded(rt.alloc(), "10 A=RND(2);B=RND(3)", "") {
@@ -416,7 +418,7 @@ fn refused_after_a_run(rt: HostRuntime) {
     }
 }
 
-// Goes to the runs that begin with an answer, told with its bound; or there is no memory.
+// Goes to the runs that begin with an answer, given with its bound; or there is no memory.
 fn expect_share(rt: &impl Abort, alloc: Global, program: &Program, lines: &[Line]) {
     match Explorer::under(alloc, program, lines, plain_rules(10000), &[TWO_OF_2]) {
         Ok(explorer) => expect_counts(rt, &explorer, 0, 2),
@@ -425,7 +427,7 @@ fn expect_share(rt: &impl Abort, alloc: Global, program: &Program, lines: &[Line
 }
 
 // Passes whichever of its allocations is refused: the list is a beginning with its bound, so that
-// nothing but memory can be wanting. The one play that tells so is counted.
+// only memory can be missing. The one play that shows this is counted.
 #[test]
 fn refused_shares(rt: HostRuntime) {
     match loaded(rt.alloc(), "10 A=RND(2);B=RND(3)", "") {

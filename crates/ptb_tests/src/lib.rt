@@ -1,8 +1,8 @@
 //! Tests of the parts of the tool, over their public names: the explorer and its reports, the command
 //! line, runs, notes, and the writer of standard output.
 //!
-//! It stands on the libraries of the tool and on `clap`. No crate stands on it: a crate with tests is
-//! proved once more together with them, so these stand apart from what they test.
+//! It depends on the libraries of the tool and on `clap`. No crate depends on it: a crate with
+//! tests is proved once more together with them, so these are kept apart from what they test.
 #![tactic(auto)]
 
 #[cfg(test)]

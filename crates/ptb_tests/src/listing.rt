@@ -29,14 +29,14 @@ RUN 2,2 END 4 7\n     2\n\nRUN 2,3 END 4 7\n     3\n\n";
 const BRANCH_REPORTS_WITH_BOUNDS: &str = "RUN 1/2 END 2 0\n\nRUN 2/2,1/3 END 4 7\n     1\n\n\
 RUN 2/2,2/3 END 4 7\n     2\n\nRUN 2/2,3/3 END 4 7\n     3\n\n";
 
-// Which runs are listed: all, those behind one, those that begin with some answers, or both.
+// Which runs are listed: all, those after one, those that begin with some answers, or both.
 #[derive(Clone, Copy)]
 enum Runs<'a> {
     All,
-    Behind(&'a [i16]),
-    BehindMarked(&'a [Marked]),
+    After(&'a [i16]),
+    AfterMarked(&'a [Marked]),
     Under(&'a [Marked]),
-    UnderBehind(&'a [Marked], &'a [Marked]),
+    UnderAfter(&'a [Marked], &'a [Marked]),
 }
 
 // Why there is no explorer.
@@ -58,16 +58,16 @@ fn explorer_of<'a>(
 ) -> Result<Explorer<'a>, &'static str> {
     match runs {
         Runs::All => Explorer::start(alloc, program, lines, rules).or(Err("out of memory")),
-        Runs::Behind(run) => {
+        Runs::After(run) => {
             Explorer::after(alloc, program, lines, rules, run).map_err(why_not_opened)
         }
-        Runs::BehindMarked(run) => {
+        Runs::AfterMarked(run) => {
             Explorer::after_marked(alloc, program, lines, rules, run).map_err(why_not_opened)
         }
         Runs::Under(list) => {
             Explorer::under(alloc, program, lines, rules, list).map_err(why_not_opened)
         }
-        Runs::UnderBehind(list, run) => {
+        Runs::UnderAfter(list, run) => {
             Explorer::after_under(alloc, program, lines, rules, list, run).map_err(why_not_opened)
         }
     }
@@ -84,7 +84,7 @@ struct Asked<'a> {
     form: Form,
 }
 
-// What the listing comes to that is written to this writer; or why there is none.
+// The result of the listing that is written to this writer; or why there is none.
 fn listed_to<W: Write>(
     alloc: Global,
     program: &Program,
@@ -211,7 +211,7 @@ RUN 2,1 END 1 14\n@(RND(2)-1):1\n\nRUN 2,2 END 1 14\n@(RND(2)-1):2\n\n",
     ),
 ];
 
-// Each answer that INPUT takes in place of a line gives a run, as each of RND's does.
+// Each answer that INPUT takes instead of a line gives a run, as each of RND's does.
 #[test]
 fn writes_runs_without_lines(rt: HostRuntime) {
     let rules = Rules {
@@ -221,9 +221,9 @@ fn writes_runs_without_lines(rt: HostRuntime) {
     expect_listings(&rt, rt.alloc(), rules, LISTINGS_WITHOUT_LINES);
 }
 
-// Programs and their runs, how many reports are listed behind those at most and how many there are,
+// Programs and their runs, how many reports are listed after those at most and how many there are,
 // and their text.
-const LISTINGS_BEHIND: &[(&str, &[i16], Option<u64>, u64, &[u8])] = &[
+const LISTINGS_AFTER: &[(&str, &[i16], Option<u64>, u64, &[u8])] = &[
     (
         PRODUCTS,
         &[1, 1],
@@ -237,11 +237,11 @@ const LISTINGS_BEHIND: &[(&str, &[i16], Option<u64>, u64, &[u8])] = &[
 
 #[test]
 fn writes_those_after(rt: HostRuntime) {
-    for &(text, run, first, count, reports) in LISTINGS_BEHIND {
+    for &(text, run, first, count, reports) in LISTINGS_AFTER {
         let asked = Asked {
             text,
             input: "",
-            runs: Runs::Behind(run),
+            runs: Runs::After(run),
             first,
             form: Form::One,
         };
@@ -332,7 +332,7 @@ const NO_RUNS: &[&[i16]] = &[&[], &[2], &[2, 4], &[2, 1, 1], &[0]];
 #[test]
 fn refuses_what_is_no_run(rt: HostRuntime) {
     for &run in NO_RUNS {
-        let asked = of_branches(Runs::Behind(run), None);
+        let asked = of_branches(Runs::After(run), None);
         expect_listing(
             &rt,
             rt.alloc(),
@@ -361,7 +361,7 @@ const SECOND_RUN: &[&[Marked]] = &[
 #[test]
 fn goes_on_after_stated_bounds(rt: HostRuntime) {
     for &run in SECOND_RUN {
-        let asked = of_branches(Runs::BehindMarked(run), None);
+        let asked = of_branches(Runs::AfterMarked(run), None);
         expect_branches(&rt, rt.alloc(), &asked, 2, 45, 101);
     }
 }
@@ -383,7 +383,7 @@ const OTHER_BOUNDS: &[&[Marked]] = &[
 #[test]
 fn refuses_other_bounds(rt: HostRuntime) {
     for &run in OTHER_BOUNDS {
-        let asked = of_branches(Runs::BehindMarked(run), None);
+        let asked = of_branches(Runs::AfterMarked(run), None);
         expect_listing(
             &rt,
             rt.alloc(),
@@ -417,9 +417,9 @@ fn writes_shares(rt: HostRuntime) {
     }
 }
 
-// Answers with which runs begin, one of these runs, how many there are behind it, and where the text of
-// their reports begins and ends.
-const SHARES_BEHIND: &[(&[Marked], &[Marked], u64, usize, usize)] = &[
+// Answers with which runs begin, one of these runs, how many there are after it, and where the text
+// of their reports begins and ends.
+const SHARES_AFTER: &[(&[Marked], &[Marked], u64, usize, usize)] = &[
     (&[TWO], &[TWO_OF_2, ONE], 2, 45, 101),
     (&[TWO], &[TWO_OF_2, TWO], 1, 73, 101),
     (&[TWO], &[TWO_OF_2, THREE], 0, 101, 101),
@@ -428,11 +428,11 @@ const SHARES_BEHIND: &[(&[Marked], &[Marked], u64, usize, usize)] = &[
 
 #[test]
 fn goes_on_in_a_share(rt: HostRuntime) {
-    for &(list, run, count, from, to) in SHARES_BEHIND {
-        let asked = of_branches(Runs::UnderBehind(list, run), None);
+    for &(list, run, count, from, to) in SHARES_AFTER {
+        let asked = of_branches(Runs::UnderAfter(list, run), None);
         expect_branches(&rt, rt.alloc(), &asked, count, from, to);
     }
-    let asked = of_branches(Runs::UnderBehind(&[TWO], &[ONE]), None);
+    let asked = of_branches(Runs::UnderAfter(&[TWO], &[ONE]), None);
     expect_listing(
         &rt,
         rt.alloc(),
@@ -465,7 +465,7 @@ fn refuses_what_begins_no_run(rt: HostRuntime) {
     }
 }
 
-// What the listing of all products to this writer comes to; or why there is none.
+// The result of the listing of all products to this writer; or why there is none.
 fn listed_products<W: Write>(
     alloc: Global,
     program: &Program,
@@ -543,7 +543,7 @@ impl ByteSink for &mut Sink {
     }
 }
 
-// What a listing comes to whose writer fails behind so many calls, and what the writer has taken.
+// The result of a listing whose writer fails after so many calls, and what the writer has taken.
 fn expect_count(
     rt: &impl Abort,
     name: &str,
@@ -619,14 +619,14 @@ fn holds(room: &[u8], text: &[u8]) -> bool {
     }
 }
 
-// How many reports a listing writes until memory is refused it, which is told.
+// How many reports a listing writes until memory is refused it, which is reported.
 fn begun<R: Abort + Print>(rt: &R, explorer: &mut Explorer) -> Result<u64, Fail> {
     let mut room = [b'.'; 100];
     let mut out = Device::new(&mut room[..]);
     let count = match write_all_runs(explorer, None, Form::One, &mut out) {
         Ok(count) => count,
         Err(ExploreFault::Memory(count)) => {
-            println!(rt; "refused behind {count}")?;
+            println!(rt; "refused after {count}")?;
             count
         }
         Err(ExploreFault::Write(_)) => return Err(Fail::from("not written")),
@@ -636,7 +636,7 @@ fn begun<R: Abort + Print>(rt: &R, explorer: &mut Explorer) -> Result<u64, Fail>
     Ok(count)
 }
 
-// The listing of the reports behind so many.
+// The listing of the reports after so many.
 fn expect_rest(rt: &impl Abort, explorer: &mut Explorer, first: u64) {
     let mut room = [b'.'; 100];
     let mut out = Device::new(&mut room[..]);
@@ -647,7 +647,7 @@ fn expect_rest(rt: &impl Abort, explorer: &mut Explorer, first: u64) {
     expect_same(rt, "the rest", found, (first, due, true));
 }
 
-// Two listings, one behind the other, have all reports.
+// Two listings, one after the other, have all reports.
 fn expect_two_parts<R: Abort + Print>(rt: &R, explorer: &mut Explorer) -> Result<(), Fail> {
     let first = begun(rt, explorer)?;
     expect_rest(rt, explorer, first);

@@ -157,7 +157,7 @@ fn ended_in(alloc: Global, program: &Program, room: &mut [u8]) -> Result<Ending,
     run_seeded(alloc, program, 7, plain_rules(200), &mut input, &mut out)
 }
 
-// Whether a room has only lines that are shown, and behind them nothing.
+// Whether a room has only lines that are shown, and nothing after them.
 fn begins(room: &[u8]) -> bool {
     let mut ended = false;
     for pair in room.as_chunks::<2>().0 {
@@ -188,7 +188,7 @@ fn refused_seeded_runs(rt: HostRuntime) {
     expect_same(&rt, "a beginning", begins(&room), true);
 }
 
-// What a run comes to whose input can't be read, and what it shows.
+// The result of a run whose input can't be read, and what it shows.
 fn unread(alloc: Global, program: &Program) -> (Result<Ending, RunFault>, Vec<u8>) {
     let mut shown = Vec::new(alloc);
     let mut input = Device::new(Broken);

@@ -10,7 +10,7 @@ use std::alloc::{AllocError, Global};
 use std::process::Abort;
 use std::test::Fail;
 
-// An explorer behind the run with these answers, or at the first run.
+// An explorer after the run with these answers, or at the first run.
 fn explorer_after<'a>(
     alloc: Global,
     program: &'a Program,
@@ -45,7 +45,7 @@ fn expect_next(
     Ok(())
 }
 
-// The run behind one with these answers has these answers and bounds.
+// The run after one with these answers has these answers and bounds.
 fn expect_after(
     rt: &impl Abort,
     alloc: Global,
@@ -59,7 +59,7 @@ fn expect_after(
     expect_next(rt, &mut explorer, answers, bounds)
 }
 
-// An answer is raised, and ones stand behind it; the bounds are those of the questions.
+// An answer is raised, and ones follow it; the bounds are those of the questions.
 #[test]
 fn records_a_plan_and_ones(rt: HostRuntime) -> Result<(), Fail> {
     let text = "10 A=RND(2),B=RND(3),C=RND(7),D=RND(1)";
@@ -122,7 +122,7 @@ fn written_by(alloc: Global, explorer: &mut Explorer, form: Form) -> Result<Vec<
     }
 }
 
-// The report of the run behind the one with these answers, or of the first.
+// The report of the run after the one with these answers, or of the first.
 fn written_from(
     alloc: Global,
     program: &Program,
@@ -219,7 +219,7 @@ fn long_report(alloc: Global) -> Result<String, AllocError> {
     format!(in alloc; "RUN 10{others} LIMIT 604 600\n{shown}\n")
 }
 
-// What is reported behind the last run but one.
+// What is reported after the last run but one.
 fn last_written(alloc: Global, program: &str) -> Result<Vec<u8>, &'static str> {
     let mut before = [10; 300];
     before[299] = 9;
@@ -236,7 +236,7 @@ fn writes_a_long_report(rt: HostRuntime) -> Result<(), Fail> {
     Ok(())
 }
 
-// What the listing behind a run comes to that is written to this room.
+// The result of the listing after a run that is written to this room.
 fn written_to(
     alloc: Global,
     program: &Program,
@@ -248,7 +248,7 @@ fn written_to(
     Ok(write_all_runs(&mut explorer, None, Form::One, &mut out))
 }
 
-// A writer that takes fewer bytes than a report has gets a beginning of it.
+// A writer that takes fewer bytes than a report has gets a prefix of it.
 fn expect_beginning(
     rt: &impl Abort,
     alloc: Global,

@@ -221,7 +221,7 @@ fn refused_samples_end_with_a_report(rt: HostRuntime) -> Result<(), Fail> {
     let count = match roll_three(rt.alloc(), &program, &lines, &mut room[..]) {
         Ok(()) => 3,
         Err(ExploreFault::Memory(count)) => {
-            println!(rt; "refused behind {count}")?;
+            println!(rt; "refused after {count}")?;
             count
         }
         Err(ExploreFault::Write(_)) => return Err(Fail::from("not written")),

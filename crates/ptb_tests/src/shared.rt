@@ -109,7 +109,7 @@ pub(crate) fn expect_same<T: Copy + PartialEq + Debug>(
     assert_eq!(rt; found, wanted, "{what}");
 }
 
-// Why there is no program or there are no lines, where memory is wanting.
+// Why there is no program or there are no lines, where memory is missing.
 pub(crate) const OUT_OF_MEMORY: &str = "out of memory";
 
 // The program of a text, and the lines of an input; or why there are none.

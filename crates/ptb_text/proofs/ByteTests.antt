@@ -1,4 +1,4 @@
--- This file proves what a test of bytes says of the bytes in front of a text, behind them, and of all.
+-- This file proves what a test of bytes says of the bytes at the front of a text, of those after them, and of all.
 -- Main lemma: `list_all-from_none`.
 use Rattle.std.proofs.Common.{◌≡◌, ℕ, zero, suc, ◌+◌, Bool, true, false, not, cond, ◌&&◌, ltb, List}
 use Rattle.std.proofs.Common.{[], ◌∷◌, ◌++◌, length, drop, Some, None, refl, sym, ap, ◌∙◌, arith}
@@ -57,12 +57,12 @@ list_all-drop p zero xs all = all
 list_all-drop p (suc n) [] all = all
 list_all-drop p (suc n) (x ∷ xs) all = list_all-drop p n xs (both_true _ _ all).1
 
--- the byte behind the bytes in front that pass doesn't pass
-pub prefix_len-behind : (p : Test) (xs : List ℕ) → prefix_len p (drop (prefix_len p xs) xs) ≡ 0
-prefix_len-behind p [] = refl
-prefix_len-behind p (x ∷ xs) =
+-- the byte after the bytes at the front that pass doesn't pass
+pub prefix_len-following : (p : Test) (xs : List ℕ) → prefix_len p (drop (prefix_len p xs) xs) ≡ 0
+prefix_len-following p [] = refl
+prefix_len-following p (x ∷ xs) =
     elim (p x) as (λ b. p x ≡ b → prefix_len p (drop (cond b (1 + prefix_len p xs) 0) (x ∷ xs)) ≡ 0) [
-      | true ↦ λ e. rw one-add (prefix_len-behind p xs)
+      | true ↦ λ e. rw one-add (prefix_len-following p xs)
       | false ↦ λ e. ap (λ b. cond b (1 + prefix_len p xs) 0) e
     ] refl
 

@@ -23,15 +23,15 @@ IsGapFor-tail s p n i gap = record {
   greater_after = λ j after in_range. gap.greater_after (suc j) (omega arith) (omega arith);
 }
 
--- behind the number, all are greater
-IsGapFor-behind : (s : ℕ × List ℕ) (p : Statements) (n : ℕ) → IsAt (s ∷ p) n 0 → IsGapFor p n 0
-IsGapFor-behind s p n at = record {
+-- after the number, all are greater
+IsGapFor-following : (s : ℕ × List ℕ) (p : Statements) (n : ℕ) → IsAt (s ∷ p) n 0 → IsGapFor p n 0
+IsGapFor-following s p n at = record {
   in_range = omega arith;
   smaller_before = λ j before. absurd (omega arith);
   greater_after = λ j after in_range. at.greater_after (suc j) (omega arith) (omega arith);
 }
 
--- behind a greater number too
+-- after a greater number, too
 IsGapFor-later : (s : ℕ × List ℕ) (p : Statements) (n : ℕ) → IsGapFor (s ∷ p) n 0 → IsGapFor p n 0
 IsGapFor-later s p n gap = record {
   in_range = omega arith;
@@ -66,7 +66,7 @@ pub number_after-place : (p : Statements) (n i : ℕ) → IsAt p n i
     → number_after p n ≡ option_map (λ s. s.0) (slice_get p (suc i))
 number_after-place [] n i at = absurd (omega (arith, at.in_range))
 number_after-place (s ∷ p) n zero at =
-    grind (arith, nat_tests, at.has_number, number_after-gap p n 0 (IsGapFor-behind s p n at))
+    grind (arith, nat_tests, at.has_number, number_after-gap p n 0 (IsGapFor-following s p n at))
 number_after-place (s ∷ p) n (suc i) at =
     grind (arith, nat_tests, at.smaller_before 0 (omega arith), number_after-place p n i (IsAt-tail s p n i at))
 
@@ -100,6 +100,6 @@ without_number-gap (s ∷ p) n (suc i) gap =
 pub without_number-place : (p : Statements) (n i : ℕ) → IsAt p n i → without_number p n ≡ remove p i
 without_number-place [] n i at = absurd (omega (arith, at.in_range))
 without_number-place (s ∷ p) n zero at =
-    grind (arith, nat_tests, at.has_number, without_number-gap p n 0 (IsGapFor-behind s p n at))
+    grind (arith, nat_tests, at.has_number, without_number-gap p n 0 (IsGapFor-following s p n at))
 without_number-place (s ∷ p) n (suc i) at =
     grind (arith, nat_tests, at.smaller_before 0 (omega arith), without_number-place p n i (IsAt-tail s p n i at))

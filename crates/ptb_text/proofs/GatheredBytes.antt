@@ -15,7 +15,7 @@ use Rattle.ptb_text.specs.Device.{Gathers, TakesSome}
 pub gathers_none : (a : Option (List ℕ)) (s : List ℕ) → Gathers a a s s
 gathers_none a s = record { front = []; whole = refl; growth = Appends-nil a }
 
--- what was pending, and x behind it
+-- what was pending, and x after it
 pub gathers_more : (a b c : Option (List ℕ)) (s p x q : List ℕ) → Gathers a b s p → Gathers b c (p ++ x) q
     → Gathers a c (s ++ x) q
 gathers_more a b c s p x q g h = record {
@@ -41,11 +41,11 @@ gathers_some a b s p g =
 some_gathers : (a b : Option (List ℕ)) (s : List ℕ) → (t : TakesSome a b s) → Gathers a b s (drop t.0 s)
 some_gathers a b s t = record { front = take t.0 s; whole = sym (take-append-drop t.0 s); growth = t.2 }
 
--- a beginning of the first bytes is one of all
+-- a prefix of the first bytes is a prefix of all
 pub some_more : (a b : Option (List ℕ)) (s x : List ℕ) → TakesSome a b s → TakesSome a b (s ++ x)
 some_more a b s x t = (t.0, omega (arith, t.1, length-append s x), rw (take-append-le t.0 s x t.1) t.2)
 
--- a beginning of what was pending and x behind it
+-- a prefix of what was pending and x after it
 pub some_after : (a b c : Option (List ℕ)) (s p x : List ℕ) → Gathers a b s p → TakesSome b c (p ++ x)
     → TakesSome a c (s ++ x)
 some_after a b c s p x g t =
@@ -58,7 +58,7 @@ some_after a b c s p x g t =
 pub all_after : (a b c : Option (List ℕ)) (s p : List ℕ) → Gathers a b s p → Appends b c p → Appends a c s
 all_after a b c s p g t = subst (Appends a c) (sym g.whole) (Appends-trans a b c g.front p g.growth t)
 
--- a beginning of what was pending was
+-- a prefix of what was pending was taken
 pub some_rest : (a b c : Option (List ℕ)) (s p : List ℕ) → Gathers a b s p → TakesSome b c p → TakesSome a c s
 some_rest a b c s p g t =
     let q : TakesSome b c (p ++ []) = rw append-nil t in

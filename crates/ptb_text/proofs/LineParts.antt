@@ -21,11 +21,11 @@ use Rattle.ptb_text.specs.Entry.{Enters, EntersNothing, IsLineFault, IsRefused, 
 use Rattle.ptb_words.specs.declared.word.Number.{Number}
 use Rattle.ptb_words.specs.declared.word.Number.TheVariants.{Absent, Value, TooBig}
 use Rattle.ptb_words.specs.Words.{past_blanks, number_at, small_number}
-use Rattle.ptb_text.proofs.ByteTests.{list_all-from_none, list_all-drop, prefix_len-behind}
+use Rattle.ptb_text.proofs.ByteTests.{list_all-from_none, list_all-drop, prefix_len-following}
 
 -- a text without the blanks in front has none in front
 pub trim_start-trimmed : (t : List ℕ) → trim_start (trim_start t) ≡ trim_start t
-trim_start-trimmed t = ap (λ n. drop n (trim_start t)) (prefix_len-behind is_blank t)
+trim_start-trimmed t = ap (λ n. drop n (trim_start t)) (prefix_len-following is_blank t)
 
 -- what a test for no bytes says
 pub no_bytes : (t : List ℕ) (b : Bool) → b ≡ (length t == 0) → b ≡ true → t ≡ []
@@ -117,7 +117,7 @@ IsRefused-fault : (line : List ℕ) (fault : LoadFault) → IsRefused line fault
 IsRefused-fault line fault h =
     subst (λ (r : Result Statements LoadFault). IfErr r IsLineFault) (h [] 0) (unless_bad_byte-fault _ [] 0 line)
 
--- what is told of a line that was entered
+-- what is known of a line that was entered
 pub record IsEntered (line : List ℕ) (old new : StoredProgram) (result : Result (Unit {0}) LoadFault) : Type 0 where
   pub enters : Enters (after_line old.lines old.memory line) old new result
   pub memory_text : IsErrOf result Memory → HasText line
@@ -145,7 +145,7 @@ line_refused line p (Err f) fault is refused =
       memory_text = λ e. absurd (not_memory f line_fault (memory_fault f e));
     }
 
--- ---- the number that stands in front
+-- ---- the number in front
 
 -- the line without the blanks in front of it
 abbrev pub in_front : List ℕ → List ℕ
@@ -183,7 +183,7 @@ number_cases line n j e = go (k == 0) refl e
     go true h e = inl (eqb-true k 0 h, sym (ap (λ (p : Number × ℕ). p.0) e))
     go false h e = inr (ap (λ (p : Number × ℕ). p.0) e, ap (λ (p : Number × ℕ). p.1) e)
 
--- what digits write is a number, and it tells whether it is small
+-- the number that digits write is small or too big, never absent
 absent_is : (v : ℕ) → small_number v ≡ Absent → ⊥
 absent_is v e = go (nat_le v number_limit) e
   where
@@ -230,11 +230,11 @@ pub record HasNumber (line : List ℕ) (v : ℤ) (j : ℕ) : Type 0 where
   pub high : digits_value (digits_of (in_front line)) ≤ number_limit
   pub text : drop j line ≡ trim_start (after_digits (in_front line))
 
-behind : (line : List ℕ)
+following : (line : List ℕ)
     → drop (past_blanks line (past_blanks line 0 + prefix_len is_digit (in_front line))) line
     ≡ trim_start (after_digits (in_front line))
 unfolding past_blanks
-behind line =
+following line =
     let k = prefix_len is_digit (in_front line) in
     let b = past_blanks line 0 in
     sym (drop-drop (prefix_len is_blank (drop (b + k) line)) (b + k) line)
@@ -248,7 +248,7 @@ number_value line v j e = elim (number_cases line (Value v) j e) [
       record {
         value = n.1;
         high = n.0;
-        text = ap (λ m. drop m line) (sym h.1) ∙ behind line;
+        text = ap (λ m. drop m line) (sym h.1) ∙ following line;
       }
 ]
 
@@ -256,9 +256,9 @@ number_value line v j e = elim (number_cases line (Value v) j e) [
 pub found : (line : List ℕ) (n m : Number) (j : ℕ) → number_at line 0 ≡ (n, j) → n ≡ m → number_at line 0 ≡ (m, j)
 found line n m j e is = e ∙ ap (λ (x : Number). (x, j)) is
 
--- ---- what entering a line comes to
+-- ---- the result of entering a line
 
--- what was found is what is told of it
+-- what was found is as the match says
 pub found_is : {T : Type 0} (N : Type 0) (P : T → Type 0) (o : Option T) (x : T) → MatchOption o N P → o ≡ Some x → P x
 found_is N P None x told is = cc
 found_is N P (Some y) x told is = let same : y ≡ x = cc in subst P same told

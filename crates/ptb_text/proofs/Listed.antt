@@ -164,20 +164,20 @@ after_line-entry p memory n t facts fits =
     let clean = none_from_list_all is_printable line (entry-prints n t facts) in
     let size : prefix_len is_digit line ≡ length ds = prefix_len-whole is_digit ds 32 t is.all_digits refl in
     let digits : digits_of line ≡ ds = ap (λ k. take k line) size ∙ take-append_seam ds (32 ∷ t) in
-    let behind : after_digits line ≡ 32 ∷ t = ap (λ k. drop k line) size ∙ drop-append_seam ds (32 ∷ t) in
+    let following : after_digits line ≡ 32 ∷ t = ap (λ k. drop k line) size ∙ drop-append_seam ds (32 ∷ t) in
     let some : 0 < length line = omega (arith, is.some, length-append ds (32 ∷ t)) in
     let numbered = after_number line line clean (sym (trim_start-digits ds (32 ∷ t) is.all_digits is.some)) n some
     (ap digits_value digits ∙ is.value) facts.low facts.high in
     numbered.enters p memory
-    ∙ ap (after_statement p memory n) (ap trim_start behind ∙ trim_start-after_blank t facts.text)
+    ∙ ap (after_statement p memory n) (ap trim_start following ∙ trim_start-after_blank t facts.text)
     ∙ store_text p memory n t facts.text.not_empty facts.text.short fits
 
 -- ---- all lines, one after the other
 
--- a statement behind all others goes behind them
-with_text-behind : (p : Statements) (s : ℕ × List ℕ) (rest : Statements) → is_sorted nat_cmp (p ++ s ∷ rest) ≡ true
+-- a statement that comes after all others is put after them
+with_text-following : (p : Statements) (s : ℕ × List ℕ) (rest : Statements) → is_sorted nat_cmp (p ++ s ∷ rest) ≡ true
     → with_text p s.0 s.1 ≡ p ++ s ∷ []
-with_text-behind p s rest sorted =
+with_text-following p s rest sorted =
     let all = p ++ s ∷ rest in
     let size = length-append p (s ∷ rest) in
     let here : statement_number all (length p) ≡ s.0 = ap (λ t. t.0) (get_or-append_seam p s rest (0, [])) in
@@ -219,7 +219,7 @@ entries_entered : (p rest : Statements) (k memory : ℕ) → is_program (p ++ re
 entries_entered p [] k memory is fits = none_left k p memory ∙ ap Ok (sym (append-nil p))
 entries_entered p (s ∷ rest) k memory is fits =
     let parts = both_true _ _ is in
-    let stored = with_text-behind p s rest parts.0 in
+    let stored = with_text-following p s rest parts.0 in
     let others : (p ++ s ∷ []) ++ rest ≡ p ++ s ∷ rest = append_assoc p (s ∷ []) rest in
     let facts = StatementFacts-from_test s.0 s.1
     (both_true _ _ (both_true _ _ (sym (list_all-append is_statement p (s ∷ rest)) ∙ parts.1)).1).0 in

@@ -22,7 +22,7 @@ use Rattle.ptb_text.proofs.Pieces.{lines-spaces}
 abbrev Lines : Type 0
 Lines = List (List ℕ)
 
--- the lines behind those that were accepted are entered into what they gave
+-- the lines after those that were accepted are entered into what they gave
 pub after_lines-append : (ds es : Lines) (k : ℕ) (p q : Statements) (memory : ℕ) → after_lines ds k p memory ≡ Ok q
     → after_lines (ds ++ es) k p memory ≡ after_lines es (k + length ds) q memory
 unfolding after_lines

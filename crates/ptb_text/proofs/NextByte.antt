@@ -1,4 +1,4 @@
--- This file proves what the number of a statement tells of its place.
+-- This file proves what the number of a statement says about its place.
 -- Main lemma: `statement_laws`.
 use Rattle.std.proofs.Common.{◌≡◌, ℕ, zero, suc, ◌<◌, List, [], ◌∷◌, length, get_or, Some}
 use Rattle.std.proofs.Common.{slice_get, add-one, ap, subst, ◌∙◌, arith}
@@ -18,7 +18,7 @@ statement_laws = record {
       let s = there p i (n, t) e in
       let number : statement_number p i ≡ n = ap (λ x. x.0) s.1 in
       subst (λ (k : ℕ). text_at p k ≡ Some t) number (text_at-number p is i s.0 ∙ ap (λ x. Some x.1) s.1);
-  behind = λ p i n t is e.
+  following = λ p i n t is e.
       let s = there p i (n, t) e in
       let number : statement_number p i ≡ n = ap (λ x. x.0) s.1 in
       rw add-one

@@ -38,7 +38,7 @@ module _ (xs ys : List ℕ) (i : ℕ) (in_range : i < length xs)
 
 -- ---- cutting at byte 10
 
--- how many bytes stand before the first byte 10
+-- how many bytes are before the first byte 10
 abbrev pub piece_len : List ℕ → ℕ
 piece_len t = prefix_len (λ b. not (b == 10)) t
 
@@ -75,7 +75,7 @@ pieces-whole (b ∷ d ∷ bs) some all =
       | false ↦ λ h. ap (onto_first b) (pieces-whole (d ∷ bs) (omega arith) (omega arith))
     ] all
 
--- a text with a byte 10: the line in front of the first, and those behind it
+-- a text with a byte 10: the line before the first, and those after it
 pub lines-cut : (t : List ℕ) (k : ℕ) → position (λ b. b == 10) t ≡ Some k
     → lines t ≡ strip_carriage_return (take k t) ∷ lines (drop (k + 1) t)
 lines-cut t k is =

@@ -24,7 +24,7 @@ use Rattle.ptb_text.specs.Program.{text_in, lengths, texts_length, laid_out}
 abbrev pub shown : List ℕ → Statement → ℕ × List ℕ
 shown pool s = (s.number, text_in pool s)
 
--- the statements of a program whose texts stand one right behind the other, from a place on
+-- the statements of a program whose texts are directly one after the other, from a place on
 abbrev pub entries : ℕ → Statements → List Statement
 entries place [] = []
 entries place (s ∷ p) = record { number = s.0; place = place; length = length s.1 } ∷ entries (place + length s.1) p
@@ -45,10 +45,10 @@ texts_length-cons s p = sum_by-cons (λ t. length t.1) s p
 
 length-text : (pool : List ℕ) (s : Statement) → s.place + s.length ≤ length pool → length (text_in pool s) ≡ s.length
 length-text pool s within =
-    let behind = length-drop s.place pool in
+    let following = length-drop s.place pool in
     let size : s.place + s.length - s.place ≡ s.length = omega arith in
     ap (λ k. length (take k (drop s.place pool))) size ∙ length-take s.length (drop s.place pool)
-    ∙ omega (arith, behind)
+    ∙ omega (arith, following)
 
 module _ (pool : List ℕ) where
   pub entries-from_laid_out : (place : ℕ) (ss : List Statement) → ss ≡ laid_out place ss
@@ -56,10 +56,10 @@ module _ (pool : List ℕ) where
   entries-from_laid_out place [] same within = refl
   entries-from_laid_out place (s ∷ ss) same within =
       let here : s.place ≡ place = ap (λ l. (get_or l 0 s).place) same in
-      let behind : ss ≡ laid_out (place + s.length) ss = ap (drop 1) same in
+      let following : ss ≡ laid_out (place + s.length) ss = ap (drop 1) same in
       let sum = lengths-cons s ss in
       let size : length (text_in pool s) ≡ s.length = length-text pool s (omega (arith, here)) in
-      let others = entries-from_laid_out (place + s.length) ss behind (omega arith) in
+      let others = entries-from_laid_out (place + s.length) ss following (omega arith) in
       let first : s ≡ record { number = s.number; place = place; length = length (text_in pool s) } =
       λ i. record { number = s.number; place = here i; length = sym size i } in
       λ i. first i ∷ (others ∙ ap (λ k. entries (place + k) (map (shown pool) ss)) (sym size)) i
@@ -69,9 +69,9 @@ module _ (pool : List ℕ) where
   texts-from_laid_out place [] same end = drop_all place pool (omega (arith, end))
   texts-from_laid_out place (s ∷ ss) same end =
       let here : s.place ≡ place = ap (λ l. (get_or l 0 s).place) same in
-      let behind : ss ≡ laid_out (place + s.length) ss = ap (drop 1) same in
+      let following : ss ≡ laid_out (place + s.length) ss = ap (drop 1) same in
       let sum = lengths-cons s ss in
-      let others = texts-from_laid_out (place + s.length) ss behind (omega (arith, end)) in
+      let others = texts-from_laid_out (place + s.length) ss following (omega (arith, end)) in
       let parts = drop_split pool place (place + s.length) (omega arith) in
       parts ∙ ap (λ r. slice_range pool place (place + s.length) ++ r) others
       ∙ ap (λ k. slice_range pool k (k + s.length) ++ texts (map (shown pool) ss)) (sym here)
@@ -84,9 +84,9 @@ module _ (pool : List ℕ) where
       let size : place + length s.1 - place ≡ length s.1 = omega arith in
       let text : slice_range pool place (place + length s.1) ≡ s.1 =
       ap (λ k. take k (drop place pool)) size ∙ ap (take (length s.1)) rest ∙ take-append_seam s.1 (texts p) in
-      let behind : drop (place + length s.1) pool ≡ texts p = sym (drop-drop (length s.1) place pool)
+      let following : drop (place + length s.1) pool ≡ texts p = sym (drop-drop (length s.1) place pool)
       ∙ ap (drop (length s.1)) rest ∙ drop-append_seam s.1 (texts p) in
-      λ i. (s.0, text i) ∷ shown-entries (place + length s.1) p behind i
+      λ i. (s.0, text i) ∷ shown-entries (place + length s.1) p following i
 
 pub laid_out-entries : (b a : ℕ) (p : Statements) → laid_out b (entries a p) ≡ entries b p
 laid_out-entries b a [] = refl
@@ -133,7 +133,7 @@ entries-append a (s ∷ p) q =
     ap (λ ss. record { number = s.0; place = a; length = length s.1 } ∷ ss)
     (entries-append (a + length s.1) p q ∙ ap (λ k. entries (a + length s.1) p ++ entries k q) place)
 
--- the statement at a place, and where its text stands
+-- the statement at a place, and where its text is
 pub record IsEntry (p : Statements) (i : ℕ) (s : Statement) : Type 0 where
   pub number_is : s.number ≡ statement_number p i
   pub place_is : s.place ≡ texts_length (take i p)
@@ -171,7 +171,7 @@ IsEntry-read p i s in_range read =
       within = omega (arith, facts.3, whole);
     }
 
--- ---- an edit: the statements in front of a place stay, and those from there on are laid out anew
+-- ---- an edit: the statements before a place stay, and those from there on are laid out again
 
 module _ (p : Statements) (i place : ℕ) (here : place ≡ texts_length (take i p)) where
   front_and : (q : Statements) → take i (entries 0 p) ++ entries place q ≡ entries 0 (take i p ++ q)

@@ -1,5 +1,5 @@
--- This file proves what a pool holds once a text was put in the place of a part of it: the part is cut out, the text
--- goes behind all, and what stands from there on is turned round.
+-- This file proves what a pool holds once a text has replaced a part of it: the part is cut out, the text is appended,
+-- and what is there from that place on is rotated.
 -- Main lemma: `put_items`.
 use Rattle.std.proofs.Common.{◌≡◌, ◌∙◌, ℕ, ◌-◌, ◌≤◌, List, [], ◌++◌, length, take, drop, Result, Ok}
 use Rattle.std.proofs.Common.{refl, ap, arith, append_assoc, append-nil, length-append, length-drop}

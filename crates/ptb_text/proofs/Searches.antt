@@ -92,7 +92,7 @@ searched pool (s ∷ ss) sorted n (Err i) in_range parted =
       };
     }
 
--- a number above the last one, if there is one, would go behind all
+-- a number above the last one, if there is one, would come after all
 pub IsGapFor-end : (pool : List ℕ) (ss : List Statement) → is_sorted nat_cmp (map (shown pool) ss) ≡ true
     → (n : ℕ) (last : Option Statement) → last ≡ slice_get ss (length ss - 1) → IfSome last (λ s. s.number < n)
     → IsGapFor (map (shown pool) ss) n (length ss)

@@ -70,7 +70,7 @@ rising (s ∷ p) sorted i zero lt in_range = absurd (omega arith)
 rising (s ∷ p) sorted zero (suc j) lt in_range = below_each s.0 p (both_true _ _ sorted).0 j (omega arith)
 rising (s ∷ p) sorted (suc i) (suc j) lt in_range = rising p (both_true _ _ sorted).1 i j (omega arith) (omega arith)
 
--- so each statement stands at the place of its number
+-- so each statement is at the place of its number
 pub IsAt-from_rising : (p : Statements) → is_sorted nat_cmp p ≡ true → (i : ℕ) → i < length p
     → IsAt p (statement_number p i) i
 IsAt-from_rising p sorted i in_range = record {

@@ -1,4 +1,4 @@
--- This file proves that what stands in the fields of a program is what its lines show.
+-- This file proves that what is in the fields of a program is what its lines show.
 -- Main lemma: `IsEntry-shown`.
 use Rattle.std.proofs.Common.{◌≡◌, ℕ, suc, ◌+◌, ◌*◌, ◌<◌, ◌≤◌, true, List, [], ◌++◌, length, map}
 use Rattle.std.proofs.Common.{take, drop, get_or, set, sym, ap, ◌∙◌, arith}
@@ -104,7 +104,7 @@ HasSizes-from_kept f p shows kept =
       small = omega (arith, kept.sound.memory_size.1, memory_shown f p shows);
     }
 
--- the statement at a place, and where its text stands
+-- the statement at a place, and where its text is
 pub IsEntry-shown : (f : Inside) (p : StoredProgram) → stored_program f ≡ p → IsKept f → (i : ℕ) (s : Statement)
     → i < length p.lines → s ≡ get_or f.statements.items i s → IsEntry p.lines i s
 IsEntry-shown f p shows kept i s in_range read =

@@ -31,7 +31,7 @@ pub gathers_all : {a b : Option (List ℕ)} {bytes : List ℕ} (rest : List ℕ)
 gathers_all {a} {b} [] before e = subst (Appends a b) (sym (before.whole ∙ append-nil before.front)) before.growth
 gathers_all (x ∷ rest) before e = absurd (omega arith)
 
--- where the next piece fails, a beginning of the whole was taken
+-- where the next piece fails, a prefix of all the bytes was taken
 pub gathers_fault : {a b : Option (List ℕ)} {bytes rest : List ℕ} (c : Option (List ℕ)) → Gathers a b bytes rest
     → TakesSome b c rest → TakesSome a c bytes
 gathers_fault {a} {b} {bytes} {rest} c before now =

@@ -1,4 +1,4 @@
--- This file proves what reading a whole text comes to, by what was read before and what the last read did.
+-- This file proves the result of reading a complete text, by what was read before and what the last read did.
 -- Main lemma: `ends_text`.
 use Rattle.std.proofs.Common.{◌≡◌, ◌∙◌, ◌+◌, ◌-◌, ◌<◌, ◌≤◌, ℕ, zero, suc, List, [], ◌++◌, length}
 use Rattle.std.proofs.Common.{take, min, Option, None, Some, IfSome, Ok, Err, refl, ap, subst}

@@ -21,7 +21,7 @@ use Rattle.ptb_text.specs.declared.device.Device.{Device}
 abbrev pub failure_limit : ℕ
 failure_limit = 2 ^ 64 - 1
 
--- a fault is counted, and nothing else is; a device whose count stands at the limit has failed for good
+-- a fault is counted, and nothing else is; a device whose count is at the limit has failed for good
 abbrev pub CountsFaults : {T E : Type 0} → ℕ → ℕ → Result T E → Type 0
 CountsFaults old new result =
     MatchResult result (λ _. (old < failure_limit) × (new ≡ old))

@@ -2,7 +2,7 @@
 --     EntersNothing line          no program changes
 --     IsRefused line fault        each program refuses it
 --     IsNumbered line n text      it stores the text under the number, or deletes the statement where the text is empty
---     IsLineFault fault           a fault that a line can have, and not want of memory or a reader's
+--     IsLineFault fault           a fault that a line can have, and not lack of memory or a reader's
 --     Enters wanted old new result    a call gave the map or the refusal that was wanted, or was refused memory
 use Rattle.std.specs.Prelude.{◌≡◌, ℕ, ◌<◌, ◌≤◌, IsTrue, List, length, Result, Ok, Err, IsOk, IfErr, OnOk, OnErr}
 use Rattle.std.specs.List.{list_all}

@@ -11,7 +11,7 @@ abbrev pub onto_first : ℕ → List (List ℕ) → List (List ℕ)
 onto_first b [] = (b ∷ []) ∷ []
 onto_first b (l ∷ ls) = (b ∷ l) ∷ ls
 
--- a byte 10 ends a piece; behind a last byte 10 no piece begins
+-- a byte 10 ends a piece; after a last byte 10 no piece begins
 abbrev pub pieces : List ℕ → List (List ℕ)
 pieces [] = []
 pieces (b ∷ bs) = if b == 10 then [] ∷ pieces bs else onto_first b (pieces bs)

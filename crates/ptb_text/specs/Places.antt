@@ -1,6 +1,6 @@
--- This file defines where a number stands, or would stand, among statements that rise by their numbers.
+-- This file defines where a number is, or would be, among statements that rise by their numbers.
 --     statement_at p i               the number and the text of the statement at place i
---     StatementLaws                  what the number of a statement tells of its place
+--     StatementLaws                  what the number of a statement says about its place
 use Rattle.std.specs.Prelude.{◌≡◌, ℕ, ◌+◌, ◌<◌, ◌≤◌, IsTrue, List, [], length, Option, Some, ℤ, pos}
 use Rattle.std.specs.Prelude.{option_map, slice_get, slice_index_or}
 use Rattle.ptb_text.specs.Statements.{Statements, is_program, number_after, text_at}
@@ -31,6 +31,6 @@ pub record StatementLaws : Type 0 where
   -- it is the one that its number names
   pub text : (p : Statements) (i n : ℕ) (t : List ℕ) → IsTrue (is_program p) → slice_get p i ≡ Some (n, t)
       → text_at p n ≡ Some t
-  -- the next number is that of the statement behind it
-  pub behind : (p : Statements) (i n : ℕ) (t : List ℕ) → IsTrue (is_program p) → slice_get p i ≡ Some (n, t)
+  -- the next number is that of the statement after it
+  pub following : (p : Statements) (i n : ℕ) (t : List ℕ) → IsTrue (is_program p) → slice_get p i ≡ Some (n, t)
       → number_after p n ≡ option_map (λ s. s.0) (slice_get p (i + 1))

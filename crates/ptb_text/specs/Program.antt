@@ -2,7 +2,7 @@
 --     text_in pool s               the text of a statement: a part of the pool
 --     stored_program p             the texts of the statements under their numbers, and the memory
 --     lengths ss                   how long the texts of statements are together
---     laid_out place ss            statements whose texts stand one right behind the other, from a place on
+--     laid_out place ss            statements whose texts are directly one after the other, from a place on
 --     texts_length p               how long the texts of a program are together
 --     IsKept p                     the program is sound, and its statements cut the pool into their texts without gaps
 use Rattle.std.specs.Prelude.{◌≡◌, ℕ, ◌+◌, List, [], ◌∷◌, length, map, sum_by, slice_range}

@@ -42,7 +42,7 @@ abbrev pub number_after : Statements → ℕ → Option ℕ
 number_after [] n = None
 number_after (s ∷ p) n = if nat_lt n s.0 then Some s.0 else number_after p n
 
--- what stands under a number with a sign: below 0 there is nothing
+-- the text under a number with a sign: below 0 there is none
 abbrev pub text_under : Statements → ℤ → Option (List ℕ)
 text_under p (pos n) = text_at p n
 text_under p (negsuc n) = None
@@ -107,7 +107,7 @@ unless_bad_byte None p memory line = after_trimmed p memory (trim_start line)
 abbrev pub after_line : Statements → ℕ → List ℕ → Result Statements LoadFault
 after_line p memory line = unless_bad_byte (position (λ b. not (is_printable b)) line) p memory line
 
--- what stands behind the number of a line, without blanks in front
+-- what follows the number of a line, without blanks in front
 abbrev pub text_after_number : List ℕ → List ℕ
 text_after_number line = let t = trim_start line in trim_start (drop (prefix_len is_digit t) t)
 

@@ -19,7 +19,7 @@ pub struct DeviceFault;
 /// What gives bytes.
 ///
 /// Its failures are counted: a call that answers the fault adds one to the count, and no other call
-/// changes it. The count ends at `u64::MAX`; a reader that has come there answers the fault to each
+/// changes it. The count ends at `u64::MAX`; a reader that has reached it answers the fault to each
 /// call.
 ///
 /// Its bytes are counted, too, also where nobody knows which will come: a call that gives some adds
@@ -68,7 +68,7 @@ pub trait Write {
     ///
     /// # Errors
     ///
-    /// [`DeviceFault`] where the writer failed. A beginning of the bytes may have been taken then.
+    /// [`DeviceFault`] where the writer failed. A prefix of the bytes may have been taken then.
     fn write(&mut self, bytes: &[u8]) -> Result<usize, DeviceFault>
         ensures room { IfOk result (λ n. n ≤ length bytes.now) }
         ensures some { IfOk result (λ n. 0 < length bytes.now → 0 < n) }
@@ -82,7 +82,7 @@ pub trait Write {
     ///
     /// # Errors
     ///
-    /// [`DeviceFault`] where one of the writes failed. A beginning of the bytes may have been taken
+    /// [`DeviceFault`] where one of the writes failed. A prefix of the bytes may have been taken
     /// then.
     final fn write_all(&mut self, bytes: &[u8]) -> Result<(), DeviceFault>
         ensures ok { OnOk result (Appends (contents self.old) (contents self.new) bytes.now) }

@@ -14,7 +14,7 @@ pub enum LoadFault {
     /// A statement's text is over 255 bytes.
     #[error("text too long")]
     TextTooLong,
-    /// A byte that doesn't print stands at this place of a line, counted from 1.
+    /// A byte that doesn't print is at this place of a line, counted from 1.
     #[error("bad byte at {0}")]
     BadByte(usize),
     /// The program would cost more than the memory that it is given.

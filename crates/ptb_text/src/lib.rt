@@ -1,8 +1,8 @@
 //! Program texts of Tiny BASIC: readers and writers, the lines of a text, and the statements under
 //! their numbers.
 //!
-//! It stands on `ptb_words`, whose names it passes on, and on `arrayvec`, `itoa`, `thiserror` and
-//! std. The crate above may rely on `load` (the statements that a text comes to, or which of its
+//! It depends on `ptb_words`, whose names it passes on, and on `arrayvec`, `itoa`, `thiserror` and
+//! std. The crate above may rely on `load` (the statements that a text results in, or which of its
 //! lines is refused first), on the look-ups of `Program`, and on `OutputBuffer` (a writer gets what
 //! was put into it, in this order).
 #![tactic(auto)]

@@ -1,4 +1,4 @@
-// This file takes a program line apart: the number in front, and the text behind it.
+// This file takes a program line apart: the number in front, and the text after it.
 
 ghost use Rattle.std.specs.Prelude.{◌≡◌, ◌<◌, IfSome, MatchOption, MatchResult};
 ghost use Rattle.std.specs.Prelude.{length, not, position};
@@ -22,7 +22,7 @@ pub(crate) struct NumberedLine<'a> {
 /// # Errors
 ///
 /// `BadByte` for the first byte that doesn't print; else `NoNumber` where no number of at least 1
-/// stands in front; else `NumberTooBig` for a number over 32767.
+/// is in front; else `NumberTooBig` for a number over 32767.
 pub(crate) fn numbered_line(line: &[u8]) -> Result<Option<NumberedLine<'_>>, LoadFault>
     ensures { MatchResult result
         (λ found. MatchOption found (EntersNothing line.now)

@@ -131,12 +131,12 @@ fn enter_lines(mut program: Program, text: &[u8]) -> Result<Program, (u32, LoadF
     let mut rest = text;
     let mut entered: u32 = 0;
     while !rest.is_empty() {
-        let (line, behind) = split_line(rest);
+        let (line, following) = split_line(rest);
         if let Err(fault) = program.enter(line) {
             return Err((entered + 1, fault));
         }
         entered += 1;
-        rest = behind;
+        rest = following;
     }
     Ok(program)
 }

@@ -27,7 +27,7 @@ const TEXT_LIMIT: usize = 255;
 /// What a statement takes of the memory beside its text: two for its number and one for its end.
 const STATEMENT_COST: usize = 3;
 
-// A statement's number, and where its text stands in the pool of all texts.
+// A statement's number, and where its text is in the pool of all texts.
 #[derive(Clone, Copy, Debug)]
 struct Statement {
     number: u16,
@@ -36,7 +36,7 @@ struct Statement {
 }
 
 impl Statement {
-    // The place behind its text.
+    // The place after its text.
     fn end(&self) -> usize
         ensures { result ≡ self.now.place + self.now.length }
     {
@@ -53,7 +53,7 @@ impl Statement {
 pub struct Program {
     // rising by their numbers
     statements: Vec<Statement>,
-    // their texts in the same order, each right behind the one before it
+    // their texts in the same order, each directly after the one before it
     pool: Vec<u8>,
     memory: u16,
 }
@@ -126,7 +126,7 @@ impl Program {
         Some(self.statement_at(at).1)
     }
 
-    /// Which of the statements has this number, if one has: how many stand before it.
+    /// Which of the statements has this number, if one has: how many are before it.
     pub fn index_of(&self, number: i16) -> Option<usize>
         ensures found { IfSome result (λ index.
             option_map (λ s. s.0) (statement_at self.now.lines index) ≡ Some number) }
@@ -137,7 +137,7 @@ impl Program {
         self.search(number).ok()
     }
 
-    /// The number and the text of the statement that stands behind so many others, if there is one.
+    /// The number and the text of the statement that follows so many others, if there is one.
     pub fn get(&self, index: usize) -> Option<(i16, &[u8])>
         ensures value { option_map {U = ℤ × List ℕ} (λ s. (s.0, s.1.now)) result
             ≡ statement_at self.now.lines index }
@@ -184,7 +184,7 @@ impl Program {
     /// # Errors
     ///
     /// In this order: `BadByte` for the first byte that isn't from space to tilde (a tab and a
-    /// byte 13 are such bytes, too); `NoNumber` where no number of at least 1 stands in front;
+    /// byte 13 are such bytes, too); `NoNumber` where no number of at least 1 is in front;
     /// `NumberTooBig` for a number over 32767; `TextTooLong` for a text over 255 bytes; `Full`
     /// where the statements would take more memory than there is; `Memory` where a growth was
     /// refused for the text that the line stores.
@@ -194,7 +194,7 @@ impl Program {
         ensures refused { IfErr result
             (λ f. IsLineFault f → after_line self.old.lines self.old.memory line.now ≡ Err f) }
 
-        // Want of memory comes last.
+        // Lack of memory comes last.
         ensures memory_last { IfErr result (λ f. ¬ IsLineFault f
             → (f ≡ LoadFault.Memory) × IsOk (after_line self.old.lines self.old.memory line.now)) }
         ensures memory_text { IsErrOf result LoadFault.Memory → HasText line.now }
@@ -293,7 +293,7 @@ impl Program {
         Ok(())
     }
 
-    // Where the text of the statement at this place stands, or the end of all texts.
+    // Where the text of the statement at this place is, or the end of all texts.
     fn place_of(&self, at: usize) -> u16
         requires { at ≤ length self.now.lines }
         ensures { result ≡ texts_length (take at self.now.lines) }
@@ -334,7 +334,7 @@ impl Program {
         Some(statement.number as i16)
     }
 
-    // Where the statement of this number stands, or where it would go. Lines mostly come in rising
+    // Where the statement of this number is, or where it would go. Lines mostly come in rising
     // order, so the last statement is looked at first.
     fn search(&self, number: u16) -> Result<usize, usize>
         ensures found { IfOk result (IsAt self.now.lines number) }
@@ -351,8 +351,8 @@ impl Program {
     }
 }
 
-// Puts a text in the place of the bytes from `start` to `end`. It goes behind all others first, where
-// there is room for it, and is turned round with those that stand behind its place.
+// Replaces the bytes from `start` to `end` with a text. It is appended first, where there is room
+// for it, and then rotated to its place, before the bytes that follow.
 fn put_text(pool: &mut Vec<u8>, start: usize, end: usize, text: &[u8])
     requires order { start ≤ end }
     requires within { end ≤ vec_len pool.old }
@@ -364,7 +364,7 @@ fn put_text(pool: &mut Vec<u8>, start: usize, end: usize, text: &[u8])
     pool[start..].rotate_right(text.len());
 }
 
-// Sets the places of statements whose texts stand one right behind the other, the first at `start`.
+// Sets the places of statements whose texts are directly one after the other, the first at `start`.
 fn lay_out(statements: &mut [Statement], start: u16)
     requires { start + lengths statements.old < 2 ^ 16 }
     ensures { statements.new ≡ laid_out start statements.old }

@@ -9,7 +9,7 @@ use Rattle.std.proofs.lemmas.List.Sums.{prefix_len-drop_yes, prefix_len-drop_no,
 use Rattle.ptb_words.specs.Digits.{is_blank}
 use Rattle.ptb_words.specs.Words.{past_blanks}
 
--- ---- the place goes on over a blank, and stays at another byte and at the end
+-- ---- the place moves over a blank, and stays at another byte and at the end
 
 pub past_blanks_more : (t : List ℕ) (i : ℕ) → i < length t → get_or t i 0 ≡ 32 → past_blanks t (i + 1) ≡ past_blanks t i
 unfolding past_blanks
@@ -33,7 +33,7 @@ pub past_blanks_within : (t : List ℕ) (i : ℕ) → i ≤ length t → past_bl
 unfolding past_blanks
 past_blanks_within t i h = omega (arith, prefix_len-le-length is_blank (drop i t), length-drop i t)
 
--- no blank stands there
+-- no blank is there
 not_blank : (t : List ℕ) (i : ℕ) → past_blanks t i < length t → get_or t (past_blanks t i) 0 ≡ 32 → ⊥
 unfolding past_blanks
 not_blank t i h =

@@ -1,4 +1,4 @@
--- This file proves what holds of all that is found: that it lies ahead, and what the byte that stands next tells of it.
+-- This file proves what holds of all that is found: that it lies ahead, and what the next byte says about it.
 -- Main lemma: `finding_laws`.
 use Rattle.std.proofs.Common.{◌≡◌, ℕ, ◌+◌, ◌<◌, ◌≤◌, ◌⊎◌, ◌∙◌, Bool, true, false, cond, leb, eqb}
 use Rattle.std.proofs.Common.{List, [], ◌∷◌, map, length, drop, take, Option, Some, None, refl, sym}
@@ -30,7 +30,7 @@ use Rattle.ptb_words.proofs.Blanks.{past_blanks_from, past_blanks_within, past_b
 
 -- ---- it lies ahead
 
--- the place after k bytes and the blanks behind them
+-- the place after k bytes and the blanks after them
 ahead : (t : List ℕ) (i b k : ℕ) → i ≤ b → 0 < k → b + k ≤ length t → LiesAhead t i (past_blanks t (b + k))
 ahead t i b k h some w = record {
   after = omega (arith, past_blanks_from t (b + k));
@@ -236,7 +236,7 @@ quotation_ahead t i s j e = go (next_byte_at t i) e
     go None e = absurd cc
     go (Some q) e = there (is_quote q) q e
 
--- ---- what the byte that stands next tells
+-- ---- what the next byte says
 
 byte_there : (t : List ℕ) (i b : ℕ) → next_byte_at t i ≡ Some b
     → drop (past_blanks t i) t ≡ b ∷ drop (past_blanks t i + 1) t

@@ -1,4 +1,4 @@
--- This file proves what the two bytes that stand next make of a pair.
+-- This file proves what the next two bytes make of a pair.
 -- Main lemma: `pair_cut`.
 use Rattle.std.proofs.Common.{◌≡◌, ℕ, ◌+◌, ◌<◌, ◌≤◌, sym, true, false, cond, List, [], ◌∷◌, length}
 use Rattle.std.proofs.Common.{get_or, eqb, arith, refl, Option, Some, None, inl, inr}

@@ -24,9 +24,9 @@ use Rattle.ptb_words.specs.Words.{quotation_at, QuotedText, OpenQuote}
 use Rattle.ptb_words.specs.Finding.{LiesAhead, past_byte}
 use Rattle.ptb_words.proofs.FoundParts.{number_ahead}
 
--- what stands from a place on, as the code cuts it
-abbrev pub behind : List ℕ → ℕ → List ℕ
-behind x n = take (length x - n) (drop n x)
+-- what follows from a place on, as the code cuts it
+abbrev pub following : List ℕ → ℕ → List ℕ
+following x n = take (length x - n) (drop n x)
 
 -- ---- where a cursor is
 
@@ -48,41 +48,41 @@ number_left a b n same found some = ahead_left a b same (number_ahead b.text b.p
 -- ---- a quotation
 
 pub quotation_closed : (t x : List ℕ) (i n m q k p : ℕ) → x ≡ t → n ≡ past_blanks t i → m ≡ past_blanks t i
-    → next_byte_at t i ≡ Some q → is_quote q ≡ true → position (λ b. b == q) (behind x (n + 1)) ≡ Some k
-    → p ≡ past_blanks t (m + 1 + k + 1) → quotation_at t i ≡ QuotedText (take k (behind x (n + 1))) p
+    → next_byte_at t i ≡ Some q → is_quote q ≡ true → position (λ b. b == q) (following x (n + 1)) ≡ Some k
+    → p ≡ past_blanks t (m + 1 + k + 1) → quotation_at t i ≡ QuotedText (take k (following x (n + 1))) p
 unfolding quotation_at
 quotation_closed t x i n m q k p same at goes byte quote found place =
     let there = rw (take_rest x (n + 1), same, at) at found in
     rw (place, take_rest x (n + 1), same, at, goes, byte, quote, there) refl
 
 pub quotation_open : (t x : List ℕ) (i n q : ℕ) → x ≡ t → n ≡ past_blanks t i → next_byte_at t i ≡ Some q
-    → is_quote q ≡ true → position (λ b. b == q) (behind x (n + 1)) ≡ None → quotation_at t i ≡ OpenQuote
+    → is_quote q ≡ true → position (λ b. b == q) (following x (n + 1)) ≡ None → quotation_at t i ≡ OpenQuote
 unfolding quotation_at
 quotation_open t x i n q same at byte quote found =
     let there = rw (take_rest x (n + 1), same, at) at found in
     rw (byte, quote, there) refl
 
-pub quoted_piece : (t x : List ℕ) (i n k : ℕ) → x ≡ t → n ≡ past_blanks t i → k < length (behind x (n + 1))
-    → take k (behind x (n + 1)) ≡ slice_range t (past_blanks t i + 1)
-    (past_blanks t i + 1 + length (take k (behind x (n + 1))))
+pub quoted_piece : (t x : List ℕ) (i n k : ℕ) → x ≡ t → n ≡ past_blanks t i → k < length (following x (n + 1))
+    → take k (following x (n + 1)) ≡ slice_range t (past_blanks t i + 1)
+    (past_blanks t i + 1 + length (take k (following x (n + 1))))
 quoted_piece t x i n k same at h =
-    let size : length (take k (behind x (n + 1))) ≡ k = length-take-le k (behind x (n + 1)) (omega arith) in
+    let size : length (take k (following x (n + 1))) ≡ k = length-take-le k (following x (n + 1)) (omega arith) in
     let part : past_blanks t i + 1 + k - (past_blanks t i + 1) ≡ k = omega arith in
     rw (size, part, take_rest x (n + 1), same, at) refl
 
 -- ---- a number
 
 pub digits_within : (t x : List ℕ) (i n k : ℕ) → x ≡ t → n ≡ past_blanks t i → n ≤ length x
-    → k ≡ prefix_len is_digit (behind x n) → past_blanks t i + k ≤ length t
+    → k ≡ prefix_len is_digit (following x n) → past_blanks t i + k ≤ length t
 digits_within t x i n k same at h count =
-    let most = rw (take_rest x n) at (prefix_len-le-length is_digit (behind x n)) in
+    let most = rw (take_rest x n) at (prefix_len-le-length is_digit (following x n)) in
     let there = rw (take_rest x n) at count in
     rw (sym at, sym same) (omega (arith, most, length-drop n x, there))
 
 pub fits_within : (a b : ℕ) → a ≤ b → b < 18446744073709551616 → Fits w64 a
 fits_within a b h k = omega arith
 
-pub number_absent : (t x : List ℕ) (i n k : ℕ) → x ≡ t → n ≡ past_blanks t i → k ≡ prefix_len is_digit (behind x n)
+pub number_absent : (t x : List ℕ) (i n k : ℕ) → x ≡ t → n ≡ past_blanks t i → k ≡ prefix_len is_digit (following x n)
     → k ≡ 0 → number_at t i ≡ (Absent, i)
 unfolding number_at
 number_absent t x i n k same at count none =
@@ -91,33 +91,33 @@ number_absent t x i n k same at count none =
 
 -- a number that is there, whichever it is
 number_there : (t x : List ℕ) (i n m k : ℕ) → x ≡ t → n ≡ past_blanks t i → m ≡ past_blanks t i
-    → k ≡ prefix_len is_digit (behind x n) → (k ≡ 0 → ⊥)
-    → number_at t i ≡ (small_number (digits_value (take k (behind x n))), past_blanks t (m + k))
+    → k ≡ prefix_len is_digit (following x n) → (k ≡ 0 → ⊥)
+    → number_at t i ≡ (small_number (digits_value (take k (following x n))), past_blanks t (m + k))
 unfolding number_at
 number_there t x i n m k same at goes count some =
     let there = rw (take_rest x n, same, at) at count in
     rw (take_rest x n, same, at, goes, sym there, ne_eqb k 0 some) refl
 
 pub number_value : (t x : List ℕ) (i n m k v p : ℕ) (z : ℤ) → x ≡ t → n ≡ past_blanks t i → m ≡ past_blanks t i
-    → k ≡ prefix_len is_digit (behind x n) → (k ≡ 0 → ⊥) → v ≡ min (digits_value (take k (behind x n))) TOO_BIG
+    → k ≡ prefix_len is_digit (following x n) → (k ≡ 0 → ⊥) → v ≡ min (digits_value (take k (following x n))) TOO_BIG
     → SFits w16 (pos v) × (z ≡ pos v) → p ≡ past_blanks t (m + k) → number_at t i ≡ (Value (to_z w16 (of_z w16 z)), p)
 number_value t x i n m k v p z same at goes count some value fits place =
     let low : v ≤ 32767 = omega (arith, ints, fits.0) in
-    let all : digits_value (take k (behind x n)) ≡ v = omega (arith, value, low) in
+    let all : digits_value (take k (following x n)) ≡ v = omega (arith, value, low) in
     let kept : to_z w16 (of_z w16 z) ≡ pos v = rw fits.1 (to_z-of_z w16 (pos v) fits.0) in
     number_there t x i n m k same at goes count some ∙ rw (place, kept, all, le-leb v 32767 low) refl
 
 pub number_too_big : (t x : List ℕ) (i n m k v p : ℕ) → x ≡ t → n ≡ past_blanks t i → m ≡ past_blanks t i
-    → k ≡ prefix_len is_digit (behind x n) → (k ≡ 0 → ⊥) → v ≡ min (digits_value (take k (behind x n))) TOO_BIG
+    → k ≡ prefix_len is_digit (following x n) → (k ≡ 0 → ⊥) → v ≡ min (digits_value (take k (following x n))) TOO_BIG
     → (SFits w16 (pos v) → ⊥) → p ≡ past_blanks t (m + k) → number_at t i ≡ (TooBig, p)
 number_too_big t x i n m k v p same at goes count some value big place =
     let high : 32767 < v = elim (cases_lt 32767 v) [
       | inl h ↦ h
       | inr h ↦ let fits : SFits w16 (pos v) = omega (arith, ints) in absurd (big fits)
     ] in
-    let all : 32767 < digits_value (take k (behind x n)) = omega (arith, value, high) in
+    let all : 32767 < digits_value (take k (following x n)) = omega (arith, value, high) in
     number_there t x i n m k same at goes count some
-    ∙ rw (place, lt-leb (digits_value (take k (behind x n))) 32767 all) refl
+    ∙ rw (place, lt-leb (digits_value (take k (following x n))) 32767 all) refl
 
 -- ---- a letter
 

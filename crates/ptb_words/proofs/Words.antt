@@ -27,19 +27,20 @@ spellings_are : (c : ℕ) (cs : List ℕ) → spellings (c ∷ cs) ≡ map (λ s
 spellings_are c [] = refl
 spellings_are c (d ∷ ds) = refl
 
--- the first of these pieces that stands in front
+-- the first of these pieces that is in front
 abbrev in_front : List ℕ → List (List ℕ) → Option (List ℕ)
 in_front rest ss = find (λ s. starts_with nat_eq rest s) ss
 
--- the others and this one, all behind one more byte
-one_more : (same here : Bool) (c : ℕ) (s : List ℕ) (others behind : Option (List ℕ))
-    → behind ≡ cond same (option_map (λ s. c ∷ s) others) None
-    → cond (same && here) (Some (c ∷ s)) behind ≡ cond same (option_map (λ s. c ∷ s) (cond here (Some s) others)) None
-one_more true true c s others behind e = refl
-one_more true false c s others behind e = e
-one_more false here c s others behind e = e
+-- the others and this one, all after one more byte
+one_more : (same here : Bool) (c : ℕ) (s : List ℕ) (others following : Option (List ℕ))
+    → following ≡ cond same (option_map (λ s. c ∷ s) others) None
+    → cond (same && here) (Some (c ∷ s)) following
+    ≡ cond same (option_map (λ s. c ∷ s) (cond here (Some s) others)) None
+one_more true true c s others following e = refl
+one_more true false c s others following e = e
+one_more false here c s others following e = e
 
--- pieces with one byte in front stand there if that byte does, and they stand behind it
+-- pieces that begin with one more byte are in front if that byte is, and the pieces follow it
 in_front-map : (c b : ℕ) (rest : List ℕ) (ss : List (List ℕ))
     → in_front (b ∷ rest) (map (λ s. c ∷ s) ss) ≡ cond (eqb c b) (option_map (λ s. c ∷ s) (in_front rest ss)) None
 in_front-map c b rest [] =
@@ -54,8 +55,8 @@ in_front-map_end c (s ∷ ss) = in_front-map_end c ss
 
 -- ---- the loop over a word's letters
 
--- the place after the letters that are left of a word, at place p: all of them, or, once a letter stood, fewer and a
--- period
+-- the place after the letters that are left of a word, at place p: all of them, or, once a letter was there, fewer and
+-- a period
 pub spelt : Bool → List ℕ → ℕ → List ℕ → Option ℕ
 spelt started [] p s = cond started (Some p) None
 spelt started (c ∷ w) p [] = None
@@ -180,7 +181,7 @@ spelling_end : (c : ℕ) (cs : List ℕ) → spelling_in_front (c ∷ cs) [] ≡
 unfolding spelling_in_front
 spelling_end c cs = abbreviations_end c cs
 
--- only the words that begin with the byte that stands there are to be tried
+-- only the words that begin with the byte there are to be tried
 pub first_word_begins : (ws : List Entry) (t : List ℕ) (i b : ℕ) (s : List ℕ) → list_all has_letter ws ≡ true
     → drop i t ≡ b ∷ s → first_word ws t i ≡ first_word (filter (begins b) ws) t i
 first_word_begins [] t i b s h e = refl
@@ -209,7 +210,7 @@ words_have_letters Functions = refl
 words_have_letters To = refl
 words_have_letters Step = refl
 
--- what finds the words that begin with the byte that stands there finds the table's
+-- what finds the words that begin with the byte there finds the table's
 pub finds_begins : (table : Table) (b : ℕ) (t : List ℕ) (place : ℕ) (r : Option (Word × ℕ)) → place < length t
     → get_or t place 0 ≡ b → FindsWord (filter (begins b) (words table)) t place r → FindsWord (words table) t place r
 finds_begins table b t place r h e found = record {

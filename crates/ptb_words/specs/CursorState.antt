@@ -7,6 +7,6 @@ pub record CursorState : Type 0 where
   pub text : List ℕ
   pub place : ℕ
 
--- how many bytes stand behind the place
+-- how many bytes follow the place
 abbrev pub bytes_left : CursorState → ℕ
 bytes_left s = length s.text - s.place

@@ -1,7 +1,6 @@
--- This file states what holds of all that is found at a place: where it ends, and what the byte that stands next
--- tells of it.
+-- This file states what holds of all that is found at a place: where it ends, and what the next byte says about it.
 --     LiesAhead t i j          j is a place that something found at i may end at
---     StandsNext t i next      what the byte that stands next tells of each thing that may be found at i
+--     StandsNext t i next      what the next byte says about each thing that may be found at i
 --     FindingLaws              both hold of all that is found
 use Rattle.std.specs.Prelude.{◌≡◌, ℕ, ◌+◌, ◌<◌, ◌≤◌, Bool, false, ◌==◌, if◌then◌else◌, List}
 use Rattle.std.specs.Prelude.{length, Option, Some, None, is_none, IsTrue, IsFalse, ℤ}
@@ -24,18 +23,18 @@ pub record LiesAhead (t : List ℕ) (i j : ℕ) : Type 0 where
   pub within : j ≤ length t
   pub settled : past_blanks t j ≡ j
 
--- ---- the byte that stands next
+-- ---- the next byte
 
 -- whether there is a byte, and it passes the test
 abbrev pub is_next : (ℕ → Bool) → Option ℕ → Bool
 is_next test (Some b) = test b
 is_next test None = false
 
--- the place after one byte, and the blanks behind it
+-- the place after one byte, and the blanks after it
 abbrev pub past_byte : List ℕ → ℕ → ℕ
 past_byte t i = past_blanks t (past_blanks t i + 1)
 
--- next is the byte that stands next, if one does, and this is what it tells
+-- next is the next byte, if there is one, and this is what it says
 pub record StandsNext (t : List ℕ) (i : ℕ) (next : Option ℕ) : Type 0 where
   pub byte : next_byte_at t i ≡ next
   pub over : is_over t i ≡ is_none next

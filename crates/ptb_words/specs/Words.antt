@@ -1,11 +1,11 @@
--- This file defines what stands at a place of a text. A place counts the bytes before it.
+-- This file defines what is at a place of a text. A place counts the bytes before it.
 -- Blanks before and after are passed, and nothing else is taken.
---     past_blanks t i              where the blanks that stand at i end
---     next_byte_at t i             the byte that stands there
---     is_over t i                  whether nothing but blanks stands from i on
---     word_at table t i            the first word of the table that stands there, and the place after it
---     token_at c t i               the place after the byte c, if it stands there
---     pair_at c d t i              the place after two bytes that stand together
+--     past_blanks t i              where the blanks at i end
+--     next_byte_at t i             the byte that is there
+--     is_over t i                  whether only blanks follow from i on
+--     word_at table t i            the first word of the table that is there, and the place after it
+--     token_at c t i               the place after the byte c, if it is there
+--     pair_at c d t i              the place after two adjacent bytes
 --     letter_at t i                a letter A to Z, and the place after it
 --     number_at t i                what the longest run of digits writes, and the place after it
 --     quotation_at t i             the text between two equal quotes, and the place after it
@@ -64,11 +64,11 @@ abbreviations (c ∷ d ∷ cs) = (c ∷ codes ".") ∷ map (λ s. c ∷ s) (abbr
 abbrev pub spellings : List ℕ → List (List ℕ)
 spellings letters = letters ∷ abbreviations letters
 
--- the way in which a word stands in front of a text
+-- the spelling of a word that a text begins with
 unfoldable pub spelling_in_front : List ℕ → List ℕ → Option (List ℕ)
 spelling_in_front letters rest = find (λ s. starts_with nat_eq rest s) (spellings letters)
 
--- the first of these words that stands at place b
+-- the first of these words that is at place b
 abbrev pub first_word : List Entry → List ℕ → ℕ → Option (Word × ℕ)
 first_word [] t b = None
 first_word (w ∷ ws) t b =
@@ -105,7 +105,7 @@ IsWordOf Step w = w ≡ StepKw
 
 -- ---- tokens
 
--- the place after these bytes, if they stand together at i
+-- the place after these bytes, if they are together at i
 unfoldable pub bytes_at : List ℕ → List ℕ → ℕ → Option ℕ
 bytes_at s t i = let b = past_blanks t i in
     if starts_with nat_eq (drop b t) s then Some (past_blanks t (b + length s)) else None
@@ -119,7 +119,7 @@ pair_at c d t i = bytes_at (c ∷ d ∷ []) t i
 abbrev pub is_letter : ℕ → Bool
 is_letter b = nat_le 65 b && nat_le b 90
 
--- a letter that stands at b
+-- a letter at b
 abbrev pub letter_there : List ℕ → ℕ → Option ℕ → Option (ℕ × ℕ)
 letter_there t b (Some c) = if is_letter c then Some (c, past_blanks t (b + 1)) else None
 letter_there t b None = None
@@ -146,7 +146,7 @@ number_at t i =
     if k == 0 then (Absent, i) else (small_number (digits_value (take k (drop b t))), past_blanks t (b + k))
 
 pub data Quotation : Type 0 where
-  -- no quote stands there
+  -- no quote is there
   NoQuote : Quotation
   -- a quote without its partner
   OpenQuote : Quotation
@@ -157,7 +157,7 @@ pub data Quotation : Type 0 where
 abbrev pub is_quote : ℕ → Bool
 is_quote b = b == 39 || b == 34
 
--- what stands from place i on up to the next quote, which is the k-th byte from there on
+-- what is from place i on up to the next quote, which is the k-th byte from there on
 abbrev pub quotation_up_to : List ℕ → ℕ → Option ℕ → Quotation
 quotation_up_to t i (Some k) = QuotedText (take k (drop i t)) (past_blanks t (i + k + 1))
 quotation_up_to t i None = OpenQuote

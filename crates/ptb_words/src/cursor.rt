@@ -1,4 +1,4 @@
-// This file has a cursor over a text, which takes what stands there piece by piece.
+// This file has a cursor over a text, which takes what is there piece by piece.
 
 ghost use Rattle.std.specs.Prelude.{◌≡◌, ℕ, ◌+◌, ◌<◌, ◌≤◌, length, if◌then◌else◌, Some, None};
 ghost use Rattle.std.specs.Prelude.{IsTrue, IsFalse, IsSome, IsNone, IfSome, option_map, take, min};
@@ -21,14 +21,14 @@ const TOO_BIG: u32 = 32768;
 
 /// A place in a text.
 ///
-/// Each call passes the blanks that stand at the place, takes what it finds with the blanks
-/// behind it, and takes nothing else. A call that finds nothing leaves the place as it was,
-/// before the blanks. The text stays the same. It has at most 255 bytes.
+/// Each call passes the blanks at the place, takes what it finds with the blanks after it, and
+/// takes nothing else. A call that finds nothing leaves the place as it was, before the blanks. The
+/// text stays the same. It has at most 255 bytes.
 #[derive(Debug, Drop)]
 pub struct Cursor<'a> {
     text: &'a [u8],
     place: usize,
-    // the first place from there on at which no blank stands
+    // the first place from there on at which there is no blank
     next: usize,
 }
 
@@ -41,7 +41,7 @@ impl<'a> Model for Cursor<'a> {
         × (c.next ≤ length c.text.now) × (length c.text.now ≤ 255) };
 }
 
-// Where the blanks that stand at `place` end.
+// Where the blanks at `place` end.
 fn after_blanks(text: &[u8], place: usize) -> usize
     requires { place ≤ length text.now }
     ensures value { result ≡ past_blanks text.now place }
@@ -71,7 +71,7 @@ fn leading_digits(text: &[u8]) -> (u32, usize)
     (value, text.len())
 }
 
-// How many bytes stand before the first byte that is this one.
+// How many bytes are before the first byte that is this one.
 fn bytes_before(text: &[u8], byte: u8) -> Option<usize>
     ensures value { result ≡ position (λ b. b == byte) text.now }
     ensures within { IfSome result (λ count. count < length text.now) }
@@ -79,11 +79,11 @@ fn bytes_before(text: &[u8], byte: u8) -> Option<usize>
     text.iter().position(|b| *b == byte)
 }
 
-/// The number that stands in front of a text, blanks before it aside, and the place after it and the
-/// blanks that follow. The text may have any length.
+/// The number in front of a text, blanks before it aside, and the place after it and the blanks
+/// that follow. The text may have any length.
 ///
-/// As [`Cursor::number`] at place 0: a number over 32767 is passed too, and where no digit stands the
-/// place is 0.
+/// As [`Cursor::number`] at place 0: a number over 32767 is passed too, and where there is no digit
+/// the place is 0.
 pub fn number_in_front(text: &[u8]) -> (Number, usize)
     ensures value { number_at text.now 0 ≡ (result.0, result.1) }
     ensures within { result.1 ≤ length text.now }
@@ -120,7 +120,7 @@ impl<'a> Cursor<'a> {
         Cursor { text, place, next }
     }
 
-    /// How many bytes stand before the place.
+    /// How many bytes are before the place.
     pub fn place(&self) -> usize
         ensures { result ≡ self.now.place }
     {
@@ -143,7 +143,7 @@ impl<'a> Cursor<'a> {
         self.text
     }
 
-    /// Goes to a place of the text: at most its length. What was taken behind it can be taken again.
+    /// Goes to a place of the text: at most its length. What was taken after it can be taken again.
     pub fn go_to(&mut self, place: usize)
         requires { place ≤ length self.old.text }
         ensures { self.new ≡ record { text = self.old.text; place = place } }
@@ -151,14 +151,14 @@ impl<'a> Cursor<'a> {
         *self = Cursor::new(self.text, place);
     }
 
-    /// Whether nothing but blanks stands from the place on.
+    /// Whether only blanks follow from the place on.
     pub fn at_end(&self) -> bool
         ensures { result ≡ is_over self.now.text self.now.place }
     {
         self.next == self.text.len()
     }
 
-    // Goes to the place `end`, and past the blanks that stand there.
+    // Goes to the place `end`, and past the blanks there.
     #[tactic(auto, using(crate::proofs::Blanks::past_blanks_twice))]
     fn pass_to(&mut self, end: usize)
         requires { end ≤ length self.old.text }
@@ -170,16 +170,16 @@ impl<'a> Cursor<'a> {
         self.next = self.place;
     }
 
-    /// The byte that stands next, or `None` at the end. Nothing is taken.
+    /// The next byte, or `None` at the end. Nothing is taken.
     ///
-    /// It tells what can be found at the place, so that a caller need not try anything else.
+    /// It says what can be found at the place, so that a caller need not try anything else.
     pub fn next_byte(&self) -> Option<u8>
         ensures { StandsNext self.now.text self.now.place result }
     {
         self.text.get(self.next).copied()
     }
 
-    /// Takes the byte that stands next, whichever it is. There must be one, as `next_byte` tells.
+    /// Takes the next byte, whichever it is. There must be one, as `next_byte` says.
     pub fn take_byte(&mut self)
         requires { IsSome (next_byte_at self.old.text self.old.place) }
         ensures place { self.new.place ≡ past_byte self.old.text self.old.place }
@@ -189,7 +189,7 @@ impl<'a> Cursor<'a> {
         self.pass_to(self.next + 1);
     }
 
-    /// Takes this byte, if it stands next.
+    /// Takes this byte, if it is next.
     pub fn token(&mut self, byte: u8) -> bool
         ensures value { token_at byte self.old.text self.old.place
             ≡ (if result then Some self.new.place else None) }
@@ -207,7 +207,7 @@ impl<'a> Cursor<'a> {
         }
     }
 
-    /// Takes these two bytes, if they stand next with nothing between them.
+    /// Takes these two bytes, if they are next with nothing between them.
     #[tactic(auto, using(crate::proofs::Pairs::pair_there, crate::proofs::Pairs::pair_other, crate::proofs::Pairs::pair_other_second, crate::proofs::Pairs::pair_cut))]
     pub fn pair(&mut self, first: u8, second: u8) -> bool
         ensures value { pair_at first second self.old.text self.old.place
@@ -228,7 +228,7 @@ impl<'a> Cursor<'a> {
         }
     }
 
-    /// Takes a letter A to Z, if one stands next.
+    /// Takes a letter A to Z, if one is next.
     pub fn letter(&mut self) -> Option<Letter>
         ensures value { letter_at self.old.text self.old.place
             ≡ option_map (λ b. (b, self.new.place)) result }
@@ -243,9 +243,9 @@ impl<'a> Cursor<'a> {
         Some(letter)
     }
 
-    /// Takes the longest run of digits that stands next.
+    /// Takes the longest run of digits that is next.
     ///
-    /// A number over 32767 is taken too. Where no digit stands, nothing is taken.
+    /// A number over 32767 is taken too. Where there is no digit, nothing is taken.
     pub fn number(&mut self) -> Number
         ensures value { number_at self.old.text self.old.place ≡ (result, self.new.place) }
         ensures text { self.new.text ≡ self.old.text }
@@ -264,7 +264,7 @@ impl<'a> Cursor<'a> {
         }
     }
 
-    /// Takes the first word of the table that stands next, whole or cut with a period.
+    /// Takes the first word of the table that is next, whole or cut with a period.
     #[inline(always)]
     pub fn word(&mut self, table: Table) -> Option<Word>
         ensures value { word_at table self.old.text self.old.place

@@ -2,8 +2,8 @@
 
 ghost use Rattle.ptb_words.specs.Finding.{FindingLaws};
 
-/// What is found lies ahead of the place and within the text, and the byte that stands next tells
-/// what it can be.
+/// What is found lies ahead of the place and within the text, and the next byte says what it can
+/// be.
 #[tactic(auto, using(crate::proofs::FoundParts::finding_laws))]
 pub fn finding_laws()
     ensures { FindingLaws }

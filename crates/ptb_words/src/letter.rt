@@ -38,7 +38,7 @@ impl Letter {
         }
     }
 
-    /// How many letters stand before it in the alphabet: 0 for A, 25 for Z.
+    /// How many letters are before it in the alphabet: 0 for A, 25 for Z.
     #[inline(always)]
     pub fn index(self) -> usize
         ensures value { result ≡ self - 65 }

@@ -1,8 +1,8 @@
-//! What stands at a place of a text of Tiny BASIC: words and their abbreviations, letters, numbers,
+//! What is at a place of a text of Tiny BASIC: words and their abbreviations, letters, numbers,
 //! quotations, and the cursor that finds them.
 //!
-//! It stands on std alone. The crates above may rely on `Cursor` (each call finds what `specs/Words`
-//! says stands there, and takes only that) and on `finding_laws`.
+//! It depends on std alone. The crates above may rely on `Cursor` (each call finds what
+//! `specs/Words` says is there, and takes only that) and on `finding_laws`.
 #![tactic(auto)]
 
 mod cursor;

@@ -12,7 +12,7 @@ use crate::word::{Table, Word};
 // read back late. With it and the variable of LET inlined, a command that is read took 20 ns in a
 // loop of LET, IF and GOTO, and 31 before.
 
-// what stands behind a word that is cut
+// what follows a word that is cut
 const PERIOD: u8 = b'.';
 
 // The place after all the letters of a word, or after some of them from the front and a period.
@@ -40,7 +40,7 @@ fn spelling_end(text: &[u8], place: usize, letters: &[u8]) -> Option<usize>
     Some(at)
 }
 
-// The word, if it stands at `place`, and the place after it.
+// The word, if it is at `place`, and the place after it.
 #[inline(always)]
 fn spelled_word(text: &[u8], place: usize, word: Word, letters: &[u8]) -> Option<(Word, usize)>
     requires within { place ≤ length text.now }
@@ -95,7 +95,7 @@ fn function_at(text: &[u8], place: usize) -> Option<(Word, usize)>
     }
 }
 
-// The first word of the table that stands at `place`, and the place after it. Each caller names its
+// The first word of the table that is at `place`, and the place after it. Each caller names its
 // table, so the choice costs nothing where this is inlined.
 #[inline(always)]
 pub fn table_word_at(text: &[u8], place: usize, table: Table) -> Option<(Word, usize)>

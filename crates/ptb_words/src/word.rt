@@ -8,9 +8,9 @@ pub enum Table {
     Commands,
     /// The functions of an expression: RND, ABS and SIZE.
     Functions,
-    /// The one word TO, which stands before the limit of a FOR.
+    /// The one word TO, which is before the limit of a FOR.
     To,
-    /// The one word STEP, which stands before the step of a FOR.
+    /// The one word STEP, which is before the step of a FOR.
     Step,
 }
 
@@ -23,11 +23,11 @@ pub enum Word {
     LetKw,
     /// IF, which does what follows it or leaves it out.
     IfKw,
-    /// GOTO, which goes on at another statement.
+    /// GOTO, which continues at another statement.
     GotoKw,
     /// GOSUB, which goes to another statement and may come back.
     GosubKw,
-    /// RETURN, which goes back behind the newest GOSUB.
+    /// RETURN, which goes back to the command after the newest GOSUB.
     ReturnKw,
     /// REM, which does nothing: the rest of its statement is a remark.
     RemKw,
@@ -51,7 +51,7 @@ pub enum Word {
     StepKw,
 }
 
-/// What stands where a number may stand.
+/// What is read where a number may be.
 #[derive(Clone, Copy, Debug, PartialEq, Eq)]
 pub enum Number {
     /// No digit.
@@ -62,7 +62,7 @@ pub enum Number {
     TooBig,
 }
 
-/// What stands where a string may stand.
+/// What is read where a string may be.
 #[derive(Clone, Copy, Debug, PartialEq, Eq)]
 pub enum Quoted<'a> {
     /// No quote.

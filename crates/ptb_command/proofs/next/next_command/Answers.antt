@@ -1,4 +1,4 @@
--- At a place that a machine has: its own command, the first of the statement behind it, or none.
+-- At a place that a machine has: its own command, the first of the statement after it, or none.
 use Rattle.std.proofs.Common.{◌≡◌, ◌∙◌, Option, None, true, false, sym, subst, rules}
 use Rattle.ptb_words.specs.Words.{is_over}
 use Rattle.ptb_command.specs.Representation.{PlacesAre, NextIs}
@@ -23,16 +23,16 @@ returns-then-not-at_end-clause-next c q a =
     over)
     q (subst (PlacesAre p q) c.in_ok-here.was a))
 
-pub returns-in_err-behind-clause-next : goal.returns-in_err-behind-clause-next
-returns-in_err-behind-clause-next c q a =
+pub returns-in_err-following-clause-next : goal.returns-in_err-following-clause-next
+returns-in_err-following-clause-next c q a =
     let p = c.args.program.now.lines in
-    let none : c.from_residual-in_err-behind.result ≡ None = search rules in
+    let none : c.from_residual-in_err-following.result ≡ None = search rules in
     let over : is_over c.line_at.result.1.now c.in_ok-here.here.at ≡ true =
     rw c.new-cursor.ensures at (sym c.at_end.ensures ∙ c.if-not-at_end.false) in
     rw none (placed p c.in_ok-here.here (λ (q : Option Place). next_command p q ≡ None)
     (λ q a. next_last c.command_laws.ensures p q c.in_ok-here.here a _ (text_there p q _ _ _ a c.line_at.ensures.there)
     over
-    (not_placed p _ (c.in_err-behind.ensures.behind q a.statement)))
+    (not_placed p _ (c.in_err-following.ensures.following q a.statement)))
     q (subst (PlacesAre p q) c.in_ok-here.was a))
 
 pub returns-then-at_end-clause-next : goal.returns-then-at_end-clause-next
@@ -40,12 +40,12 @@ returns-then-at_end-clause-next c q a =
     let p = c.args.program.now.lines in
     let over : is_over c.line_at.result.1.now c.in_ok-here.here.at ≡ true =
     rw c.new-cursor.ensures at (sym c.at_end.ensures ∙ c.if-not-at_end.false) in
-    let over_after : is_over c.line_at-2.result.1.now c.in_ok-behind.behind.at ≡ true =
+    let over_after : is_over c.line_at-2.result.1.now c.in_ok-following.following.at ≡ true =
     rw c.new-cursor-2.ensures at (sym c.at_end-2.ensures ∙ c.if-at_end.true) in
     placed p c.in_ok-here.here (λ (q : Option Place). next_command p q ≡ None)
     (λ q a. next_empty c.command_laws.ensures p q c.in_ok-here.here a _ (text_there p q _ _ _ a c.line_at.ensures.there)
-    c.in_ok-behind.behind _ _ over
-    (c.in_ok-behind.ensures.behind q a.statement) c.line_at-2.ensures.there over_after)
+    c.in_ok-following.following _ _ over
+    (c.in_ok-following.ensures.following q a.statement) c.line_at-2.ensures.there over_after)
     q (subst (PlacesAre p q) c.in_ok-here.was a)
 
 pub returns-clause-next : goal.returns-clause-next
@@ -53,11 +53,11 @@ returns-clause-next c q a =
     let p = c.args.program.now.lines in
     let over : is_over c.line_at.result.1.now c.in_ok-here.here.at ≡ true =
     rw c.new-cursor.ensures at (sym c.at_end.ensures ∙ c.if-not-at_end.false) in
-    let over_after : is_over c.line_at-2.result.1.now c.in_ok-behind.behind.at ≡ false =
+    let over_after : is_over c.line_at-2.result.1.now c.in_ok-following.following.at ≡ false =
     rw c.new-cursor-2.ensures at (sym c.at_end-2.ensures ∙ c.if-at_end.false) in
     rw c.new-cursor-2.ensures
-    (placed p c.in_ok-here.here (λ (q : Option Place). NextIs p q c.in_ok-behind.behind c.line_at-2.result.1.now)
+    (placed p c.in_ok-here.here (λ (q : Option Place). NextIs p q c.in_ok-following.following c.line_at-2.result.1.now)
     (λ q a. next_later c.command_laws.ensures p q c.in_ok-here.here a _ (text_there p q _ _ _ a c.line_at.ensures.there)
-    c.in_ok-behind.behind _ _ over
-    (c.in_ok-behind.ensures.behind q a.statement) c.line_at-2.ensures.there over_after)
+    c.in_ok-following.following _ _ over
+    (c.in_ok-following.ensures.following q a.statement) c.line_at-2.ensures.there over_after)
     q (subst (PlacesAre p q) c.in_ok-here.was a))

@@ -13,4 +13,5 @@ loop-count-preserved c = λ few.
 
 pub returns-then-bytes-count-eq10-clause-line : goal.returns-then-bytes-count-eq10-clause-line
 returns-then-bytes-count-eq10-clause-line c =
-    KeepsUpTo_end _ _ c.if-count-bytes.true c.if-bytes-count-eq10.true (c.loop-count.invariant c.if-count-le-LINE_LIMIT.true)
+    KeepsUpTo_end _ _ c.if-count-bytes.true c.if-bytes-count-eq10.true
+    (c.loop-count.invariant c.if-count-le-LINE_LIMIT.true)

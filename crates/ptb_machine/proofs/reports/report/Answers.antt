@@ -18,7 +18,7 @@ returns-in_err-put_joined-2 g c d cells =
     (shown_then _ _ _ (statement_line c.args.text.now c.args.fault) _
     (three_same _ _ _ _ _ _ c.fault_line.ensures digits refl) (c.in_ok-put_joined.ensures d cells)
     (unshown_first _ _ _ _ newline _ _
-    (three_same _ _ _ _ _ _ c.text_before-before.ensures refl c.text_after-behind.ensures)
+    (three_same _ _ _ _ _ _ c.text_before-before.ensures refl c.text_after-following.ensures)
     c.from_residual-in_err-put_joined-2.ensures.1 (c.in_err-put_joined-2.ensures d cells)))
 
 pub returns : goal.returns
@@ -27,5 +27,6 @@ returns g c d cells =
     report_shown _ _ c.args.fresh.now c.args.number c.args.text.now c.args.fault _
     (shown_then _ _ _ (statement_line c.args.text.now c.args.fault) _
     (three_same _ _ _ _ _ _ c.fault_line.ensures digits refl) (c.in_ok-put_joined.ensures d cells)
-    (shown_then _ _ _ newline _ (three_same _ _ _ _ _ _ c.text_before-before.ensures refl c.text_after-behind.ensures)
+    (shown_then _ _ _ newline _
+    (three_same _ _ _ _ _ _ c.text_before-before.ensures refl c.text_after-following.ensures)
     (c.in_ok-put_joined-2.ensures d cells) (c.put.ensures d cells)))

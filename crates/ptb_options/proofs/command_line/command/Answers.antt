@@ -23,8 +23,8 @@ one_more old new a args i next within before its_rule local added =
 -- after the last argument they are the rules of all
 all : (app : App) (args : List ListedArg) (i : ℕ) → length args ≤ i → app ≡ tool_with (map rule_of_listed (take i args))
     → app ≡ tool_with (map rule_of_listed args)
-all app args i behind so_far =
-    so_far ∙ ap (λ (ws : List ListedArg). tool_with (map rule_of_listed ws)) (take_all i args behind)
+all app args i following so_far =
+    so_far ∙ ap (λ (ws : List ListedArg). tool_with (map rule_of_listed ws)) (take_all i args following)
 
 -- a command that has a version to show
 abbrev pub with_version : App → App

@@ -1,4 +1,4 @@
--- This file answers that the option found is one of the tool's, and that none is passed over.
+-- This file answers that the option found is one of the tool's, and that none is skipped.
 use Rattle.std.proofs.Common.{◌∙◌, ◌+◌, refl, sym}
 use Rattle.std.proofs.lemmas.Bool.{false≢true}
 use Rattle.ptb_options.proofs.NumberOptions.{found, no_number, other_name, so_far_more, unnamed_all}

@@ -1,4 +1,4 @@
--- This file answers that answers are gathered one after the other, each but the first behind a comma.
+-- This file answers that answers are gathered one after the other, each but the first after a comma.
 use Rattle.std.proofs.Common.{rules, ◌≡◌, ℕ, ◌<◌, ◌≤◌, List, [], ◌++◌, ◌∙◌, take, length, ap, sym}
 use Rattle.std.proofs.Common.{subst, arith, pos, get_or, codes}
 use Rattle.std.proofs.lemmas.Grind.{common_steps}

@@ -1,4 +1,4 @@
--- This file answers that an item is gathered behind its separator.
+-- This file answers that an item is gathered after its separator.
 use Rattle.std.proofs.Common.{rules, ◌≡◌, ◌∙◌, ap, sym, subst, List, ℕ, [], ◌++◌, append-nil, codes}
 use Rattle.std.proofs.Common.{Option, Some, None, ℤ, FitsSigned, w16, to_z-of_z}
 use Rattle.std.specs.Fmt.{signed_decimal}

@@ -1,5 +1,5 @@
--- This file answers that the pieces of a report are written one after the other, and that at a fault a beginning of
--- it was.
+-- This file answers that the pieces of a report are written one after the other, and that at a fault a prefix of it
+-- was.
 use Rattle.std.proofs.Common.{◌∙◌}
 use Rattle.std.proofs.lemmas.Result.{IfOk-from_err, on_ok_weaker, on_err_weaker}
 use Rattle.ptb_report.specs.Report.{asked_items}

@@ -9,11 +9,11 @@ pub returns-in-Some-clause-lines : goal.returns-in-Some-clause-lines
 returns-in-Some-clause-lines c =
     let t = c.args.text.now in
     let end = c.in-Some.end in
-    let behind : take (length t - (end + 1)) (drop (end + 1) t) ≡ drop (end + 1) t =
+    let following : take (length t - (end + 1)) (drop (end + 1) t) ≡ drop (end + 1) t =
     between_to_end t (end + 1) (length t) (omega arith) in
     lines-cut t end (sym c.in-Some.ensures.value)
     ∙ ap (λ l. l ∷ lines (drop (end + 1) t)) (sym c.strip_carriage_return.ensures)
-    ∙ ap (λ r. c.strip_carriage_return.result.now ∷ lines r) (sym behind)
+    ∙ ap (λ r. c.strip_carriage_return.result.now ∷ lines r) (sym following)
 
 pub returns-in-None-clause-lines : goal.returns-in-None-clause-lines
 returns-in-None-clause-lines c =

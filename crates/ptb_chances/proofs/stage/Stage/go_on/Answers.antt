@@ -1,4 +1,4 @@
--- This file answers that a run goes on command by command.
+-- This file answers that a run continues command by command.
 use Rattle.std.proofs.Common.{◌≡◌, List, ℕ, [], rules, refl, sym, ap, subst, ◌∙◌, arith, drop}
 use Rattle.ptb_chances.specs.Standing.{SameEnd}
 use Rattle.ptb_chances.specs.declared.plays.Console.{Console}

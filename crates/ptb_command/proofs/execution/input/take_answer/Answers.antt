@@ -66,7 +66,8 @@ returns-in_err-store_answer-clause-comes g c =
             (g.L.LineSource.most u) line (before ++ line ∷ []) fewer refl
             _ _ _ _ _ _ _ c.from_residual.ensures.1 (c.in_err-store_answer.ensures
             (devices (g.C.Chooser.choices c.args.io.now.chooser.now) (screen_state g.S.Screen c.args.io.now.screen.now)
-            (g.L.LineSource.most u) c.args.io.now.rules.choose (before ++ line ∷ [])) c.args.request.now.said.now x prompt),
+            (g.L.LineSource.most u) c.args.io.now.rules.choose (before ++ line ∷ [])) c.args.request.now.said.now x
+            prompt),
       ),
     )
 
@@ -96,7 +97,8 @@ returns-then-branch-clause-comes g c =
             (g.L.LineSource.most u) line (before ++ line ∷ []) fewer refl
             _ _ c.if-branch.true (c.in_ok-store_answer.ensures
             (devices (g.C.Chooser.choices c.args.io.now.chooser.now) (screen_state g.S.Screen c.args.io.now.screen.now)
-            (g.L.LineSource.most u) c.args.io.now.rules.choose (before ++ line ∷ [])) c.args.request.now.said.now x prompt),
+            (g.L.LineSource.most u) c.args.io.now.rules.choose (before ++ line ∷ [])) c.args.request.now.said.now x
+            prompt),
       ),
     )
 
@@ -137,7 +139,8 @@ returns-clause-comes g c =
             (g.L.LineSource.most u) line (before ++ line ∷ []) fewer refl
             _ _ c.if-branch.false (c.in_ok-store_answer.ensures
             (devices (g.C.Chooser.choices c.args.io.now.chooser.now) (screen_state g.S.Screen c.args.io.now.screen.now)
-            (g.L.LineSource.most u) c.args.io.now.rules.choose (before ++ line ∷ [])) c.args.request.now.said.now x prompt))
+            (g.L.LineSource.most u) c.args.io.now.rules.choose (before ++ line ∷ [])) c.args.request.now.said.now x
+            prompt))
             c.take_in_parts-2.result (later.1.1 (before ++ line ∷ []) x prompt is)),
       ),
     )

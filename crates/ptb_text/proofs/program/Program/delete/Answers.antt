@@ -16,7 +16,7 @@ use Rattle.ptb_text.proofs.Stored.{memory_shown, is_program_shown}
 use Rattle.ptb_text.proofs.program.Program.delete.Goals as goal
 use Rattle.ptb_text.proofs.program.Program.delete.Goals.{After-end, After-lay_out}
 
--- where the text of the statement that is taken out stands
+-- where the text of the statement that is taken out is
 entry : (c : After-end) → IsEntry c.args.self.now.lines c.in-Ok.at c.remove-deleted.result
 entry c = IsEntry-shown c.self.inside c.args.self.now c.self.view_is c.self.invariant c.in-Ok.at c.remove-deleted.result
     c.in-Ok.ensures.found.in_range c.remove-deleted.ensures.value

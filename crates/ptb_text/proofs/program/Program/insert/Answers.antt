@@ -73,7 +73,7 @@ put_text-requires-clause-within c =
     let part = sum_by-take-le (λ t. length t.1) p.lines c.args.at in
     omega (arith, here, part, s.texts_are, c.from-2.ensures, c.try_reserve.ensures.len, c.self.inside.pool.ok.0)
 
--- the new statement stands at its place
+-- the new statement is at its place
 edit : (c : After-unwrap)
     → c.insert.new.self.items ≡ insert c.self.inside.statements.items c.args.at
     (record { number = c.args.number; place = c.place_of-place.result; length = length c.args.text.now })

@@ -10,7 +10,7 @@ use Rattle.ptb_text.proofs.Stored.{IsEntry-shown, HasSizes-from_kept, length_sho
 use Rattle.ptb_text.proofs.program.Program.replace.Goals as goal
 use Rattle.ptb_text.proofs.program.Program.replace.Goals.{After-from}
 
--- where the old text stands
+-- where the old text is
 entry : (c : After-from) → IsEntry c.args.self.now.lines c.args.at c.index.result.now
 entry c = IsEntry-shown c.self.inside c.args.self.now c.self.view_is c.self.invariant c.args.at c.index.result.now
     c.requires.place.in_range c.index.ensures

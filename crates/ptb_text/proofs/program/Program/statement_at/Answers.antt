@@ -17,7 +17,7 @@ facts c =
     (is_program_shown c.self.inside p c.self.view_is c.self.invariant) c.args.at _ _ c.requires
     (line_read c.self.inside p c.self.view_is c.args.at c.index.result.now c.requires c.index.ensures)
 
--- and its text stands in the pool
+-- and its text is in the pool
 entry : (c : After-index) → IsEntry c.args.self.now.lines c.args.at c.index.result.now
 entry c = IsEntry-shown c.self.inside c.args.self.now c.self.view_is c.self.invariant c.args.at c.index.result.now
     c.requires c.index.ensures

@@ -1,4 +1,4 @@
--- This file proves whether a letter stands next.
+-- This file proves whether a letter is next.
 use Rattle.std.proofs.Math.Nat.{le_of_lt}
 use Rattle.std.proofs.lemmas.Bool.{true≢false}
 use Rattle.ptb_words.proofs.TakenTokens.{letter_taken}

@@ -1,4 +1,4 @@
--- This file proves what the byte that stands next tells.
+-- This file proves what the next byte says.
 use Rattle.std.proofs.Common.{◌≡◌, arith}
 use Rattle.std.proofs.lemmas.Grind.{elements}
 use Rattle.ptb_words.specs.Words.{next_byte_at}

@@ -1,4 +1,4 @@
--- This file proves what the digits that stand next write.
+-- This file proves what the next digits write.
 use Rattle.std.proofs.Common.{refl}
 use Rattle.std.proofs.Math.Nat.{le_of_lt}
 use Rattle.ptb_words.proofs.TakenTokens.{text_is, next_is, number_left, digits_within, fits_within}

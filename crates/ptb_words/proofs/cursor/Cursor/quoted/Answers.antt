@@ -1,4 +1,4 @@
--- This file proves what stands between two quotes.
+-- This file proves what is between two quotes.
 use Rattle.std.proofs.Common.{◌≡◌, ℕ, true, sym, refl, arith, inl, inr}
 use Rattle.std.proofs.Math.Nat.{le_of_lt}
 use Rattle.ptb_words.specs.Words.{is_quote}

@@ -1,4 +1,4 @@
--- This file proves which word stands next.
+-- This file proves which word is next.
 use Rattle.std.proofs.Math.Nat.{le_refl, le_of_lt}
 use Rattle.std.proofs.lemmas.Bool.{true≢false}
 use Rattle.ptb_words.proofs.FoundParts.{word_ahead}
