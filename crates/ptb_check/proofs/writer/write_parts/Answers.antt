@@ -1,7 +1,7 @@
 -- This file answers that the parts of a report are written as one text.
 use Rattle.std.proofs.Common.{◌≡◌, ◌∙◌, ap, subst, List, ℕ, [], ◌++◌, append_assoc, append-nil, codes}
 use Rattle.std.specs.Io.KnownBytes.{Appends}
-use Rattle.std.specs.Result.{OnErr, OnOk}
+use Rattle.std.proofs.lemmas.Result.{on_ok_weaker, on_err_weaker}
 use Rattle.ptb_text.specs.Device.{TakesSome}
 use Rattle.ptb_command.specs.Act.{newline}
 use Rattle.ptb_check.proofs.writer.write_parts.Goals as goal
@@ -18,9 +18,11 @@ in_parts none word number before after empty =
     ∙ joined word number (codes " ") before (codes "?") after (codes "\n")
 
 pub returns-clause-ok : goal.returns-clause-ok
-returns-clause-ok g c = subst (λ t. OnOk c.finish.result (Appends _ _ t)) (in_parts _ c.args.word.now c.args.number.now
-    c.args.before.now c.args.after.now c.new-report.ensures) c.finish.ensures.ok
+returns-clause-ok g c =
+    on_ok_weaker c.finish.result (λ e. subst (Appends _ _) (in_parts _ c.args.word.now c.args.number.now
+    c.args.before.now c.args.after.now c.new-report.ensures) e) c.finish.ensures.ok
 
 pub returns-clause-fault : goal.returns-clause-fault
-returns-clause-fault g c = subst (λ t. OnErr c.finish.result (TakesSome _ _ t)) (in_parts _ c.args.word.now
-    c.args.number.now c.args.before.now c.args.after.now c.new-report.ensures) c.finish.ensures.fault
+returns-clause-fault g c =
+    on_err_weaker c.finish.result (λ e. subst (TakesSome _ _) (in_parts _ c.args.word.now c.args.number.now
+    c.args.before.now c.args.after.now c.new-report.ensures) e) c.finish.ensures.fault
