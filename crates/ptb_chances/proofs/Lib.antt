@@ -17,4 +17,4 @@ pub mod Tables
 pub mod Tallies
 pub mod Texts
 pub mod Totals
-pub mod Works
+pub mod Worklists

@@ -11,7 +11,7 @@ use Rattle.ptb_command.specs.declared.ending.Ending.{Ending}
 use Rattle.ptb_command.specs.State.{State}
 use Rattle.ptb_chances.specs.declared.plays.Played.{Played}
 use Rattle.ptb_chances.specs.declared.plays.Played.TheVariants as played
-use Rattle.ptb_chances.specs.declared.work.Place.{Place}
+use Rattle.ptb_chances.specs.declared.worklist.Place.{Place}
 use Rattle.ptb_chances.specs.Standing.{Came, IsAsked, IsOver}
 
 -- of what it showed, the last line is that of the whole

@@ -24,10 +24,10 @@ use Rattle.ptb_machine.specs.Play.{play}
 use Rattle.ptb_explore.specs.Chances.{Row, answer_count, bound_product, chance_of_all}
 use Rattle.ptb_explore.specs.PlannedPlays.{run_from}
 use Rattle.ptb_explore.specs.RunTree.{leaves, tree}
-use Rattle.ptb_chances.specs.declared.work.Place.{Place}
-use Rattle.ptb_chances.specs.declared.work.Plan.{Plan}
-use Rattle.ptb_chances.specs.declared.work.Waiting.{Waiting}
-use Rattle.ptb_chances.specs.declared.work.Work.{Work}
+use Rattle.ptb_chances.specs.declared.worklist.Place.{Place}
+use Rattle.ptb_chances.specs.declared.worklist.Plan.{Plan}
+use Rattle.ptb_chances.specs.declared.worklist.Waiting.{Waiting}
+use Rattle.ptb_chances.specs.declared.worklist.Worklist.{Worklist}
 use Rattle.ptb_chances.specs.Accounts.{AreAlike, IsAccountOf, account}
 use Rattle.ptb_chances.specs.Standing.{StandsAt}
 
@@ -66,10 +66,10 @@ unplanned w = record {
 abbrev pub in_map : ℕ × Waiting → Standing
 in_map e = unplanned e.1
 
-abbrev pub states_left : Work → List Standing
+abbrev pub states_left : Worklist → List Standing
 states_left w = map unplanned w.others.items ++ map in_map w.states.entries
 
-abbrev pub standings : Work → List Standing
+abbrev pub standings : Worklist → List Standing
 standings w = map (planned w.place) w.plans.items ++ states_left w
 
 -- at the beginning of all runs

@@ -17,7 +17,7 @@ use crate::result_key::ResultKey;
 use crate::stage::Stage;
 use crate::tally::Tally;
 use crate::watch::Watch;
-use crate::work::{Place, Plan, Work};
+use crate::worklist::{Place, Plan, Worklist};
 use ptb_machine::{Ending, Line, Lines, Player, Rules, TextScreen, run_laws};
 use ptb_text::Program;
 use std::alloc::{AllocError, Global};
@@ -51,7 +51,7 @@ const PLANS: u32 = 256;
 #[derive(Drop)]
 struct Count<'p, 'l> {
     stage: Stage<'p, 'l>,
-    work: Work,
+    work: Worklist,
     tally: Tally,
 }
 
@@ -120,7 +120,7 @@ pub(crate) fn count_runs<W: Watch>(
     run_laws();
     let player = Player::new(alloc, program)?;
     let trial = player.machine(alloc)?;
-    let work = Work::begin(alloc, &player)?;
+    let work = Worklist::begin(alloc, &player)?;
     let console = Console {
         screen: TextScreen::new(alloc),
         source: Lines::new(lines),

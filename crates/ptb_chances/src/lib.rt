@@ -17,7 +17,7 @@ mod stage;
 mod table;
 mod tally;
 mod watch;
-mod work;
+mod worklist;
 
 pub use chances::{chances_text, write_chances};
 pub use laws::table_laws;

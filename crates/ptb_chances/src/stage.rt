@@ -12,7 +12,7 @@ ghost use Rattle.ptb_machine.specs.Steps.{FitsProgram, QuietTurns};
 use crate::last_line::last_lines;
 use crate::planned::PlanChooser;
 use crate::plays::{Console, Played, play_plan};
-use crate::work::{Place, Plan};
+use crate::worklist::{Place, Plan};
 use ptb_machine::{Ending, Machine, Player, Rules, TextScreen, run_laws};
 use std::alloc::{AllocError, Global};
 

@@ -42,7 +42,7 @@ pub(crate) struct Waiting {
 
 /// What is left to be played.
 #[derive(Drop)]
-pub(crate) struct Work {
+pub(crate) struct Worklist {
     /// Where the plays of the plans are.
     pub(crate) place: Place,
     pub(crate) plans: Vec<Plan>,
@@ -170,13 +170,13 @@ impl Plan {
     }
 }
 
-impl Work {
+impl Worklist {
     /// One play, at the beginning of the player's program.
     ///
     /// # Errors
     ///
     /// Where a growth was refused memory.
-    pub(crate) fn begin(alloc: Global, player: &Player) -> Result<Work, AllocError>
+    pub(crate) fn begin(alloc: Global, player: &Player) -> Result<Worklist, AllocError>
         ensures { IfOk result (λ work. (m : Configuration)
             × (standings work ≡ first_standing m ∷ []) × (m.spent ≡ false)
             × ((input : List (List ℕ)) (choose : Option ℤ) →
@@ -184,7 +184,7 @@ impl Work {
     {
         let mut plans = Vec::new(alloc);
         plans.push(Plan::first(alloc)?)?;
-        Ok(Work {
+        Ok(Worklist {
             place: Place::first(alloc, player)?,
             plans,
             states: BTreeMap::new(alloc),

@@ -2,7 +2,7 @@
 use Rattle.std.proofs.Common.{◌≡◌, ◌-◌}
 use Rattle.std.specs.Prelude.{pos, ◌≤ℤ◌, unsigned_abs}
 use Rattle.ptb_chances.specs.Waiting.{PutsAnswers, planned, standings}
-use Rattle.ptb_chances.proofs.work.Work.add_plans.Given as goal
+use Rattle.ptb_chances.proofs.worklist.Worklist.add_plans.Given as goal
 
 abbrev pub invariant-loop-answer : goal.invariant-loop-answer
 invariant-loop-answer l = record {

@@ -8,8 +8,8 @@ use Rattle.std.specs.Ordering.{is_eq, match_ordering, nat_cmp}
 use Rattle.std.specs.declared.cmp.Ordering.{Ordering}
 use Rattle.std.specs.declared.cmp.Ordering.TheVariants.{Less, Equal, Greater}
 use Rattle.ptb_numbers.specs.Fractions.{Equals, plus}
-use Rattle.ptb_chances.specs.declared.work.Place.{Place}
-use Rattle.ptb_chances.specs.declared.work.Waiting.{Waiting}
+use Rattle.ptb_chances.specs.declared.worklist.Place.{Place}
+use Rattle.ptb_chances.specs.declared.worklist.Waiting.{Waiting}
 use Rattle.ptb_chances.specs.Waiting.{IsJoined, Puts, Standing, Takes, unplanned, in_map}
 
 pub map_last : {A : Type 0} (f : A → Standing) (xs : List A) (x : A) (rest : List Standing)

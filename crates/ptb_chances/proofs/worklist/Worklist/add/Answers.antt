@@ -3,8 +3,8 @@ use Rattle.std.proofs.Common.{◌≡◌, map, refl, sym}
 use Rattle.std.specs.BTreeMap.{insert_entry}
 use Rattle.std.specs.Ordering.{nat_cmp}
 use Rattle.ptb_chances.specs.Waiting.{planned}
-use Rattle.ptb_chances.proofs.Works.{joined_there, put_alone, put_aside, put_with}
-use Rattle.ptb_chances.proofs.work.Work.add.Goals as goal
+use Rattle.ptb_chances.proofs.Worklists.{joined_there, put_alone, put_aside, put_with}
+use Rattle.ptb_chances.proofs.worklist.Worklist.add.Goals as goal
 
 pub returns-in_default : goal.returns-in_default
 returns-in_default c =
