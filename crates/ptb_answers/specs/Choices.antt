@@ -52,18 +52,18 @@ RefusedByList answers given Memory n = ⊥
 -- ---- calls that ask
 
 -- each of the answers was taken where f, after the answers before it, asks with the bound at its place
-abbrev pub Asked : {A W : Type 0} → (Answers → Outcome A W) → Answers → List ℤ → Type 0
-Asked f [] [] = Unit {0}
-Asked f [] (n ∷ bs) = ⊥
-Asked f (k ∷ ts) [] = ⊥
-Asked {W = W} f (k ∷ ts) (n ∷ bs) = ((w : W) × (f [] ≡ Asks n w)) × Asked (λ a. f (k ∷ a)) ts bs
+abbrev pub AsksFor : {A W : Type 0} → (Answers → Outcome A W) → Answers → List ℤ → Type 0
+AsksFor f [] [] = Unit {0}
+AsksFor f [] (n ∷ bs) = ⊥
+AsksFor f (k ∷ ts) [] = ⊥
+AsksFor {W = W} f (k ∷ ts) (n ∷ bs) = ((w : W) × (f [] ≡ Asks n w)) × AsksFor (λ a. f (k ∷ a)) ts bs
 
 -- between two states of a chooser f took answers, and what is left of it is g
 pub record Reaches {A W : Type 0} (f : Answers → Outcome A W) (c d : Choices) (g : Answers → Outcome A W) : Type 0 where
   pub answers : Answers
   pub bounds : List ℤ
   pub grown : d ≡ with_answers answers bounds c
-  pub asked : Asked f answers bounds
+  pub asked : AsksFor f answers bounds
   pub rest : (λ later. f (answers ++ later)) ≡ g
 
 -- with an answer that was refused as out of range, g is out

@@ -8,7 +8,7 @@ use Rattle.std.specs.Prelude.{◌≡◌, ℕ, ◌+◌, ◌<◌, List, map, Optio
 use Rattle.ptb_numbers.specs.Fractions.{Ratio, Equals, plus}
 use Rattle.ptb_explore.specs.Chances.{RunResult, Row, ratio_text}
 use Rattle.ptb_explore.specs.Report.{ending_word}
-use Rattle.ptb_report.specs.Report.{field}
+use Rattle.ptb_explore.specs.ReportText.{field}
 use Rattle.ptb_numbers.specs.Decimals.{decimals}
 use Rattle.ptb_chances.specs.declared.result_key.ResultKey.{ResultKey}
 use Rattle.ptb_chances.specs.declared.tally.Share.{Share}

@@ -3,7 +3,7 @@
 ghost use Rattle.std.specs.Prelude.{◌≡◌, ◌+◌, ◌-◌, ◌<◌, ◌≤◌, ℕ, [], None, false, true, drop, take};
 ghost use Rattle.std.specs.Prelude.{length, IfOk, OnOk};
 ghost use Rattle.ptb_answers.specs.Outcome.{is_open};
-ghost use Rattle.ptb_command.specs.State.{State};
+ghost use Rattle.ptb_machine.specs.State.{State};
 ghost use Rattle.ptb_explore.specs.PlannedPlays.{run_from};
 ghost use Rattle.ptb_chances.specs.Continuations.{ComesTo, GoesOn};
 ghost use Rattle.ptb_chances.specs.Standing.{PlaysTo, SameEnd, StandsAt};

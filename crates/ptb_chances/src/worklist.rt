@@ -4,9 +4,9 @@
 ghost use Rattle.std.specs.Prelude.{◌≡◌, ℕ, ◌<ℤ◌, ◌≤ℤ◌, pos, false, List, [], ◌∷◌, ◌++◌, map};
 ghost use Rattle.std.specs.Prelude.{unsigned_abs, Option, IsTrue, ◌+◌, ◌<◌, IfOk, OnOk, IfSome};
 ghost use Rattle.std.specs.Prelude.{IfNone, ℤ};
-ghost use Rattle.ptb_command.specs.Configuration.{Configuration};
-ghost use Rattle.ptb_command.specs.Representation.{Represents};
-ghost use Rattle.ptb_command.specs.State.{first_state};
+ghost use Rattle.ptb_machine.specs.Configuration.{Configuration};
+ghost use Rattle.ptb_machine.specs.Representation.{Represents};
+ghost use Rattle.ptb_machine.specs.State.{first_state};
 ghost use Rattle.ptb_numbers.specs.Fractions.{Equals, plus};
 ghost use Rattle.ptb_chances.specs.Waiting.{after_answer, first_standing, gone_to, planned, standings};
 ghost use Rattle.ptb_chances.specs.Waiting.{Puts, PutsAnswers, states_left, Takes, unplanned};

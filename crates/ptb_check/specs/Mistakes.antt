@@ -7,18 +7,18 @@
 --     mistakes_text p          what is written for them
 use Rattle.std.specs.Prelude.{ℕ, true, List, [], ◌∷◌, flat_map, ℤ, Option, Some, None}
 use Rattle.std.specs.Option.{option_or}
-use Rattle.ptb_words.specs.declared.word.Word.{Word}
-use Rattle.ptb_words.specs.declared.word.Word.TheVariants.{GotoKw, GosubKw}
+use Rattle.ptb_text.specs.declared.word.Word.{Word}
+use Rattle.ptb_text.specs.declared.word.Word.TheVariants.{GotoKw, GosubKw}
 use Rattle.ptb_text.specs.Statements.{Statements}
 use Rattle.ptb_expr.specs.declared.fault.Fault.{Fault}
 use Rattle.ptb_expr.specs.declared.fault.FaultKind.TheVariants.{How}
 use Rattle.ptb_expr.specs.Reading.{Reading, Whole, Malformed}
 use Rattle.ptb_expr.specs.Value.{fault}
 use Rattle.ptb_expr.specs.Written.{written_fault, written_number}
-use Rattle.ptb_command.specs.Act.{statement, report_bytes}
-use Rattle.ptb_command.specs.Commands.{Part, Assign, Say, Width, Show, NewLine, Take, Letter}
-use Rattle.ptb_command.specs.Commands.{Operand, Defect, Command, commands}
-use Rattle.ptb_command.specs.State.{Place}
+use Rattle.ptb_machine.specs.Act.{statement, report_bytes}
+use Rattle.ptb_machine.specs.Commands.{Part, Assign, Say, Width, Show, NewLine, Take, Letter}
+use Rattle.ptb_machine.specs.Commands.{Operand, Defect, Command, commands}
+use Rattle.ptb_machine.specs.State.{Place}
 
 -- ---- malformed commands
 

@@ -2,9 +2,8 @@
 
 ghost use Rattle.ptb_check.specs.Laws.{CheckLaws, CodeMistakeLaws};
 
-use ptb_command::command_laws;
 use ptb_expr::spelling_laws;
-use ptb_machine::effect_laws;
+use ptb_machine::{command_laws, effect_laws};
 
 /// The mistake of a command is found by its code.
 #[tactic(auto, using(crate::proofs::Lawful::code_mistake_laws))]

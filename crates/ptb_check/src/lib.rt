@@ -1,6 +1,6 @@
 //! The mistakes in the text of a program, which a run meets only if it reaches them.
 //!
-//! It depends on `ptb_machine`, `ptb_command`, `ptb_expr`, `ptb_text`, `ptb_words` and `itoa`. The
+//! It depends on `ptb_machine`, `ptb_expr`, `ptb_text` and `itoa`. The
 //! crate above may rely on `write_mistakes` (what is written for the mistakes of `specs/Mistakes`),
 //! on `mistake_of` (the mistake of a command, by its code), and on `check_laws` (a run that ends
 //! with a fault ends at a command that is whole, or has one of these mistakes).

@@ -3,7 +3,7 @@
 use Rattle.std.proofs.Common.{◌≡◌, List, [], ◌∷◌, ◌++◌, length, refl, ap, sym, ◌∙◌, arith, append_assoc, append-nil}
 use Rattle.std.specs.Prelude.{ℤ, Some}
 use Rattle.ptb_answers.specs.Outcome.{Answers, Outcome, bound_of, bounds, bounds_after}
-use Rattle.ptb_answers.specs.Choices.{Choices, with_bounds, Asked, Reaches}
+use Rattle.ptb_answers.specs.Choices.{Choices, with_bounds, AsksFor, Reaches}
 use Rattle.ptb_explore.specs.PlannedPlays.{Holds}
 
 module _ {A W : Type 0} (play : Answers → Outcome A W) where
@@ -25,7 +25,7 @@ module _ {A W : Type 0} (play : Answers → Outcome A W) where
       (ap (λ p. bounds_after play p a) (append_assoc t q (k ∷ [])) ∙ bounds_from t (q ++ k ∷ []) a)
 
 -- the bounds with which answers were asked for are their bounds
-pub asked_bounds : {A W : Type 0} (f : Answers → Outcome A W) (ts : Answers) (bs : List ℤ) → Asked f ts bs
+pub asked_bounds : {A W : Type 0} (f : Answers → Outcome A W) (ts : Answers) (bs : List ℤ) → AsksFor f ts bs
     → bs ≡ bounds f ts
 asked_bounds f [] [] h = refl
 asked_bounds f [] (n ∷ bs) h = absurd h

@@ -9,7 +9,7 @@ use Rattle.ptb_answers.specs.Choices.{Choices, with_answers}
 use Rattle.ptb_answers.specs.Outcome.{Answers}
 use Rattle.ptb_answers.specs.declared.asked.Asked.{Asked}
 use Rattle.ptb_answers.specs.Asked.{answers_in, bounds_in}
-use Rattle.ptb_report.proofs.AskedLists.{answer_at, length-answers_in, length-bounds_in}
+use Rattle.ptb_explore.proofs.AskedLists.{answer_at, length-answers_in, length-bounds_in}
 
 -- the bounds of the first n, and their answers
 abbrev first_bounds : ℕ → List Asked → List ℤ

@@ -1,4 +1,8 @@
 -- This file names the files of lemmas.
+pub mod HeaderPrefixes
+pub mod ReportText
+pub mod AskedLists
+pub mod WrittenTexts
 pub mod Order
 pub mod Lists
 pub mod Tree

@@ -10,7 +10,7 @@ use Rattle.ptb_explore.specs.declared.recorder.Recorder.{Recorder}
 use Rattle.ptb_explore.specs.Plans.{IsFresh}
 use Rattle.ptb_explore.specs.Recorders.{given_bounds, recorded}
 use Rattle.ptb_explore.proofs.Mismatches.{take_twice}
-use Rattle.ptb_report.proofs.AskedLists.{bound_at, length-answers_in, length-bounds_in}
+use Rattle.ptb_explore.proofs.AskedLists.{bound_at, length-answers_in, length-bounds_in}
 
 pub recorded_len : (r : Recorder) → vec_len r.asked ≡ length (recorded r)
 recorded_len r = r.asked.ok.0 ∙ sym (length-answers_in r.asked.items)

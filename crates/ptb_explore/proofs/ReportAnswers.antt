@@ -19,7 +19,7 @@ use Rattle.ptb_answers.specs.declared.form.Form.TheVariants.{One, Two}
 use Rattle.ptb_answers.specs.declared.form.Marked.{Marked}
 use Rattle.ptb_answers.proofs.Readers.{whole_is}
 use Rattle.ptb_machine.specs.Play.{Finish}
-use Rattle.ptb_report.specs.Report.{report_text, field}
+use Rattle.ptb_explore.specs.ReportText.{report_text, field}
 use Rattle.ptb_explore.specs.Report.{report, report_of, ending_word}
 use Rattle.ptb_explore.specs.Laws.{AreNumbers, ReportLaws}
 use Rattle.ptb_explore.specs.RunTree.{IsRun, runs_after}

@@ -10,20 +10,20 @@ use Rattle.ptb_answers.specs.declared.pause.Pause.{Pause}
 use Rattle.ptb_answers.specs.declared.pause.Pause.TheVariants as pauses
 use Rattle.ptb_devices.specs.Sources.{LineList, Gives}
 use Rattle.ptb_answers.specs.Outcome.{Answers, Outcome, Done, Asks, Out, go_on, map_outcome, bounds}
-use Rattle.ptb_answers.specs.Choices.{Choices, Asked, Reaches}
-use Rattle.ptb_command.specs.declared.ending.Ending.{Ending}
-use Rattle.ptb_command.specs.declared.ending.Ending.TheVariants as endings
+use Rattle.ptb_answers.specs.Choices.{Choices, AsksFor, Reaches}
+use Rattle.ptb_machine.specs.declared.ending.Ending.{Ending}
+use Rattle.ptb_machine.specs.declared.ending.Ending.TheVariants as endings
 use Rattle.ptb_machine.specs.declared.fault.RunFault.{RunFault}
 use Rattle.ptb_machine.specs.declared.fault.RunFault.TheVariants as faults
-use Rattle.ptb_command.specs.State.{State, first_state}
-use Rattle.ptb_command.specs.Act.{StepResult, Next, Over}
+use Rattle.ptb_machine.specs.State.{State, first_state}
+use Rattle.ptb_machine.specs.Act.{StepResult, Next, Over}
 use Rattle.ptb_machine.specs.Play.{Finish, turn, after_step_result, turns, play}
 use Rattle.ptb_machine.specs.Laws.{RunLaws}
-use Rattle.ptb_command.specs.Devices.{ScreenState, devices, Refusal, nothing_refused, refused_by}
-use Rattle.ptb_command.specs.Configuration.{Configuration}
-use Rattle.ptb_command.specs.Effects.{act_state}
-use Rattle.ptb_command.specs.Representation.{Represents}
-use Rattle.ptb_command.specs.Stops.{AsksUnanswered, IsOutOfLines}
+use Rattle.ptb_machine.specs.Devices.{ScreenState, devices, Refusal, nothing_refused, refused_by}
+use Rattle.ptb_machine.specs.Configuration.{Configuration}
+use Rattle.ptb_machine.specs.Effects.{act_state}
+use Rattle.ptb_machine.specs.Representation.{Represents}
+use Rattle.ptb_machine.specs.Stops.{AsksUnanswered, IsOutOfLines}
 use Rattle.ptb_machine.specs.Steps.{QuietTurns, Steps}
 use Rattle.ptb_machine.specs.TurnResults.{StepsTo, goes, ends, StepComes}
 use Rattle.ptb_answers.specs.declared.rules.Rules.{Rules}
@@ -66,7 +66,7 @@ run_prefix_at_first p input rules c m t k s =
 
 -- a turn that is put into a run asks what it asked before
 asked_in_run : (p : StoredProgram) (rules : Rules) (f : Answers → Outcome StepResult State) (ts : Answers) (bs : List ℤ)
-    → Asked f ts bs → Asked (λ a. from_turn p rules (f a)) ts bs
+    → AsksFor f ts bs → AsksFor (λ a. from_turn p rules (f a)) ts bs
 asked_in_run p rules f [] [] h = tt
 asked_in_run p rules f [] (n ∷ bs) h = absurd h
 asked_in_run p rules f (k ∷ ts) [] h = absurd h
@@ -99,7 +99,7 @@ module _ (laws : RunLaws) (p : StoredProgram) (input : List (List ℕ)) (rules :
           answers = x.exchange.answers;
           bounds = x.exchange.bounds;
           grown = x.exchanges.grown;
-          asked = subst (λ f. Asked f x.exchange.answers x.exchange.bounds) (sym (by_turn u.state)) asked;
+          asked = subst (λ f. AsksFor f x.exchange.answers x.exchange.bounds) (sym (by_turn u.state)) asked;
           rest = ap (λ f. λ later. f (x.exchange.answers ++ later)) (by_turn u.state)
               ∙ ap (λ g. λ later. from_turn p rules (g later)) x.leads.leaves.rest;
         }

@@ -1,4 +1,6 @@
 -- This file names the files of definitions.
+pub mod Begun
+pub mod ReportText
 pub mod RunTree
 pub mod Recorders
 pub mod Plans

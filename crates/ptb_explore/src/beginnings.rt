@@ -16,10 +16,10 @@ ghost use Rattle.ptb_explore.specs.RunTree.{At, IsLast, Start, runs_left};
 
 use crate::fault::ExploreFault;
 use crate::plan::{Position, plan_next};
+use crate::report_text::write_list;
 use crate::runner::Runner;
 use ptb_answers::{Asked, Form};
 use ptb_machine::{Line, Rules, ScreenFault, run_laws};
-use ptb_report::write_list;
 use ptb_text::{Program, Write};
 use std::alloc::{AllocError, Global};
 use std::marker::Model;

@@ -1,13 +1,14 @@
-//! All runs of a Tiny BASIC program, in the order of their answers, and their reports.
+//! All runs of a Tiny BASIC program, in the order of their answers, and their reports: what a run took,
+//! how it ended, and what it showed.
 //!
-//! It depends on `ptb_machine`, on definitions of the two crates below that, on `ptb_report`,
-//! `ptb_answers`, `ptb_text`, `arrayvec` and `thiserror`, and on a definition of `rand_pcg`. The crate
-//! above may rely on `Explorer::start` `after` and `after_marked` (where a listing begins, or why
-//! the answers are no run), on `under` and `after_under` (the same for the runs that begin with a
-//! list of answers), on `go_to` (the run to which an explorer moves), on `write_all_runs` (the
-//! reports of the runs that are left), on `Beginnings::start` and `write_beginnings` (the lists of
-//! answers that split the runs), on `write_sample` (the reports of the runs that a seed draws), and
-//! on `program_laws`.
+//! It stands on `ptb_machine`, on definitions of the crate below that, on `ptb_numbers`, `ptb_answers`,
+//! `ptb_text`, `arrayvec`, `itoa` and `thiserror`, and on a definition of `rand_pcg`. The crate above may
+//! rely on `Explorer::start`, `after` and `after_marked` (where a listing begins, or why the answers are
+//! no run), on `under` and `after_under` (the same for the runs that begin with a list of answers), on
+//! `go_to` (the run to which an explorer moves), on `write_all_runs` (the reports of the runs that are
+//! left), on `Beginnings::start` and `write_beginnings` (the lists of answers that split the runs), on
+//! `write_sample` (the reports of the runs that a seed draws), on `ReportWriter::write` (a writer takes
+//! the text of `specs/ReportText`, or a prefix of it where it fails), and on `program_laws`.
 #![tactic(auto)]
 
 mod beginnings;
@@ -23,6 +24,8 @@ mod plan;
 mod plays;
 mod recorder;
 mod report;
+mod report_text;
+mod report_writer;
 mod runner;
 mod sampler;
 
@@ -37,4 +40,5 @@ pub use listing::write_all_runs;
 pub use mismatch::{Mismatch, mismatch_laws};
 pub use ptb_answers::{Asked, Form, Marked};
 pub use report::{Report, word};
+pub use report_writer::ReportWriter;
 pub use sampler::{Sample, write_sample};

@@ -9,9 +9,9 @@ ghost use Rattle.ptb_explore.specs.RunTree.{runs_left};
 
 use crate::explorer::Explorer;
 use crate::fault::ExploreFault;
+use crate::report_writer::ReportWriter;
 use ptb_answers::Form;
 use ptb_machine::{ScreenFault, run_laws};
-use ptb_report::ReportWriter;
 use ptb_text::Write;
 
 // Writes the report of the next run, and says whether there is one.

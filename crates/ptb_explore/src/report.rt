@@ -3,12 +3,12 @@
 ghost use Rattle.std.specs.Prelude.{◌≡◌, [], OnOk, OnErr};
 ghost use Rattle.std.specs.Io.KnownBytes.{Appends};
 ghost use Rattle.ptb_text.specs.Device.{TakesSome, HasFailed};
-ghost use Rattle.ptb_report.specs.Report.{asked_items, report_text};
+ghost use Rattle.ptb_explore.specs.ReportText.{asked_items, report_text};
 ghost use Rattle.ptb_explore.specs.Report.{ending_word};
 
+use crate::report_writer::ReportWriter;
 use ptb_answers::{Asked, Form};
 use ptb_machine::Ending;
-use ptb_report::ReportWriter;
 use ptb_text::{DeviceFault, Write};
 use std::alloc::Global;
 

@@ -4,8 +4,8 @@ ghost use Rattle.std.specs.Prelude.{◌≡◌, ℕ, ℤ, List, Option, [], lengt
 ghost use Rattle.ptb_text.specs.Device.{HasFailed};
 ghost use Rattle.ptb_answers.specs.Drawn.{answers_by, sampled_runs};
 ghost use Rattle.ptb_answers.specs.Seeds.{generator_after, generator_of};
-ghost use Rattle.ptb_command.specs.Representation.{Represents};
-ghost use Rattle.ptb_command.specs.State.{first_state};
+ghost use Rattle.ptb_machine.specs.Representation.{Represents};
+ghost use Rattle.ptb_machine.specs.State.{first_state};
 ghost use Rattle.ptb_machine.specs.Play.{play};
 ghost use Rattle.ptb_machine.specs.Questions.{most_answers};
 ghost use Rattle.ptb_explore.specs.Report.{report};
@@ -13,11 +13,11 @@ ghost use Rattle.ptb_explore.specs.Sampling.{PlaysDrawn, SampleLaws, WritesRun, 
 
 use crate::fault::ExploreFault;
 use crate::report::word;
+use crate::report_writer::ReportWriter;
 use ptb_answers::{Form, Seeded};
 use ptb_machine::{
     Ending, Line, Lines, Machine, Player, Rules, RunFault, ScreenFault, TextScreen, run_laws,
 };
-use ptb_report::ReportWriter;
 use ptb_text::{Program, Write};
 use std::alloc::{AllocError, Global};
 

@@ -3,10 +3,10 @@
 use Rattle.std.proofs.Common.{◌≡◌, ℕ, ◌≤◌, Bool, true, false, cond, List, [], ◌∷◌, refl, arith, ℤ}
 use Rattle.std.proofs.Common.{pos, Result, Ok, Err, length, subst}
 use Rattle.std.specs.Prelude.{int_le, if◌then◌else◌}
-use Rattle.ptb_words.specs.declared.word.Number.TheVariants.{TooBig}
-use Rattle.ptb_words.specs.declared.word.Table.TheVariants.{Functions}
-use Rattle.ptb_words.specs.declared.word.Word.TheVariants.{RndKw, AbsKw}
-use Rattle.ptb_words.specs.Finding.{LiesAhead, FindingLaws}
+use Rattle.ptb_text.specs.declared.word.Number.TheVariants.{TooBig}
+use Rattle.ptb_text.specs.declared.word.Table.TheVariants.{Functions}
+use Rattle.ptb_text.specs.declared.word.Word.TheVariants.{RndKw, AbsKw}
+use Rattle.ptb_text.specs.Finding.{LiesAhead, FindingLaws}
 use Rattle.ptb_expr.specs.declared.fault.Fault.{Fault}
 use Rattle.ptb_expr.specs.declared.fault.FaultKind.{FaultKind}
 use Rattle.ptb_expr.specs.declared.fault.FaultKind.TheVariants.{What, How}

@@ -4,11 +4,11 @@ use Rattle.std.proofs.Common.{◌≡◌, ℕ, ◌+◌, ◌≤◌, ◌∙◌, Boo
 use Rattle.std.proofs.Common.{sym, Option, Some, None, arith}
 use Rattle.std.specs.Prelude.{IsFalse, ◌&&◌, if◌then◌else◌}
 use Rattle.std.proofs.lemmas.Bool.{ne_eqb, and_parts, false≢true, leb-true, lt-leb}
-use Rattle.ptb_words.specs.declared.word.Table.TheVariants.{Functions}
-use Rattle.ptb_words.specs.Digits.{is_digit}
-use Rattle.ptb_words.specs.Words.{past_blanks, next_byte_at, letter_at, number_at, is_number}
-use Rattle.ptb_words.specs.Words.{token_at, pair_at, word_at}
-use Rattle.ptb_words.specs.Finding.{StandsNext, FindingLaws, is_next, past_byte}
+use Rattle.ptb_text.specs.declared.word.Table.TheVariants.{Functions}
+use Rattle.ptb_text.specs.Digits.{is_digit}
+use Rattle.ptb_text.specs.Words.{past_blanks, next_byte_at, letter_at, number_at, is_number}
+use Rattle.ptb_text.specs.Words.{token_at, pair_at, word_at}
+use Rattle.ptb_text.specs.Finding.{StandsNext, FindingLaws, is_next, past_byte}
 use Rattle.ptb_expr.specs.declared.operator.Operator.TheVariants.{Plus, Minus, Multiply, Divide}
 use Rattle.ptb_expr.specs.declared.operator.Operator.TheVariants.{GreaterEqual, NotEqual, Greater}
 use Rattle.ptb_expr.specs.declared.operator.Operator.TheVariants.{Equals, LessEqual, Less}

@@ -2,11 +2,11 @@
 -- Main lemma: `unique`.
 use Rattle.std.proofs.Common.{◌≡◌, ℕ, zero, suc, ◌<◌, ◌≤◌, List, ◌∙◌, sym, ap, refl, arith, ℤ}
 use Rattle.std.proofs.Common.{Option, Some, None, length}
-use Rattle.ptb_words.specs.declared.word.Number.TheVariants.{Absent, Value, TooBig}
-use Rattle.ptb_words.specs.declared.word.Table.TheVariants.{Functions}
-use Rattle.ptb_words.specs.declared.word.Word.TheVariants.{RndKw, AbsKw, SizeKw}
-use Rattle.ptb_words.specs.Words.{token_at, letter_at, word_at, number_at}
-use Rattle.ptb_words.specs.Finding.{FindingLaws}
+use Rattle.ptb_text.specs.declared.word.Number.TheVariants.{Absent, Value, TooBig}
+use Rattle.ptb_text.specs.declared.word.Table.TheVariants.{Functions}
+use Rattle.ptb_text.specs.declared.word.Word.TheVariants.{RndKw, AbsKw, SizeKw}
+use Rattle.ptb_text.specs.Words.{token_at, letter_at, word_at, number_at}
+use Rattle.ptb_text.specs.Finding.{FindingLaws}
 use Rattle.ptb_expr.specs.declared.fault.FaultKind.TheVariants.{How}
 use Rattle.ptb_expr.specs.declared.operator.Operator.{Operator}
 use Rattle.ptb_expr.specs.Operators.{product_operator, sum_operator, comparison}

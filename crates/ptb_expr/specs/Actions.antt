@@ -8,7 +8,7 @@
 --     Reads, Fails                what was made between two states of a cursor and of the actions is what the grammar
 --                                 reads there
 use Rattle.std.specs.Prelude.{◌≡◌, ℕ, List}
-use Rattle.ptb_words.specs.CursorState.{CursorState}
+use Rattle.ptb_text.specs.CursorState.{CursorState}
 use Rattle.ptb_expr.specs.declared.actions.Unary.{Unary}
 use Rattle.ptb_expr.specs.declared.actions.Unary.TheVariants.{Itself, Element, Ask, Absolute, Minus}
 use Rattle.ptb_expr.specs.declared.fault.FaultKind.{FaultKind}

@@ -8,8 +8,8 @@
 --     IsEvaluated .. c a b old new result            the expression at a cursor, at a and then at b, is evaluated to
 --                                                    the result
 use Rattle.std.specs.Prelude.{◌≡◌, ℕ, ◌≤◌, List, length, ℤ, Result, Ok, Err, IfOk}
-use Rattle.ptb_words.specs.CursorState.{CursorState, bytes_left}
-use Rattle.ptb_words.specs.Finding.{LiesAhead}
+use Rattle.ptb_text.specs.CursorState.{CursorState, bytes_left}
+use Rattle.ptb_text.specs.Finding.{LiesAhead}
 use Rattle.ptb_answers.specs.declared.chooser.Chooser as choosers
 use Rattle.ptb_expr.specs.declared.fault.Stop.{Stop}
 use Rattle.ptb_expr.specs.declared.fault.Stop.TheVariants as stops

@@ -9,9 +9,9 @@ pub mod Spells
 pub mod Marks
 pub mod Evaluate
 pub mod Laws
-pub use Rattle.ptb_words.specs.CursorState
-pub use Rattle.ptb_words.specs.Words
-pub use Rattle.ptb_words.specs.Finding
+pub use Rattle.ptb_text.specs.CursorState
+pub use Rattle.ptb_text.specs.Words
+pub use Rattle.ptb_text.specs.Finding
 pub mod TreeSteps
 pub mod Direct
 pub mod Actions

@@ -7,7 +7,7 @@ use Rattle.ptb_expr.specs.declared.operator.Operator.TheVariants.{Plus, Minus, M
 use Rattle.ptb_expr.specs.declared.operator.Operator.TheVariants.{GreaterEqual, NotEqual, Greater}
 use Rattle.ptb_expr.specs.declared.operator.Operator.TheVariants.{Equals, LessEqual, Less}
 use Rattle.std.specs.Option.{option_or}
-use Rattle.ptb_words.specs.Words.{token_at, pair_at}
+use Rattle.ptb_text.specs.Words.{token_at, pair_at}
 
 -- an operator of one byte, and the place after it
 abbrev pub of_byte : Operator → ℕ → List ℕ → ℕ → Option (Operator × ℕ)

@@ -10,12 +10,12 @@
 --     expression t i, variable_tree t i        the reading of an expression, and of a variable, at place i of the text
 --                                              t
 use Rattle.std.specs.Prelude.{ℕ, zero, suc, List, length, ℤ, Option, Some, None}
-use Rattle.ptb_words.specs.declared.word.Number.{Number}
-use Rattle.ptb_words.specs.declared.word.Number.TheVariants.{Absent, Value, TooBig}
-use Rattle.ptb_words.specs.declared.word.Table.TheVariants.{Functions}
-use Rattle.ptb_words.specs.declared.word.Word.{Word}
-use Rattle.ptb_words.specs.declared.word.Word.TheVariants.{RndKw, AbsKw, SizeKw}
-use Rattle.ptb_words.specs.Words.{token_at, letter_at, word_at, number_at}
+use Rattle.ptb_text.specs.declared.word.Number.{Number}
+use Rattle.ptb_text.specs.declared.word.Number.TheVariants.{Absent, Value, TooBig}
+use Rattle.ptb_text.specs.declared.word.Table.TheVariants.{Functions}
+use Rattle.ptb_text.specs.declared.word.Word.{Word}
+use Rattle.ptb_text.specs.declared.word.Word.TheVariants.{RndKw, AbsKw, SizeKw}
+use Rattle.ptb_text.specs.Words.{token_at, letter_at, word_at, number_at}
 use Rattle.ptb_expr.specs.declared.fault.FaultKind.TheVariants.{What, How}
 use Rattle.ptb_expr.specs.declared.operator.Operator.{Operator}
 use Rattle.ptb_expr.specs.Operators.{product_operator, sum_operator, comparison}

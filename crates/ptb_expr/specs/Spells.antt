@@ -2,11 +2,11 @@
 --     Spells t part i r        r is the longest reading of the part at place i of the text t
 --     SpellingLaws             what `expression` and `variable_tree` read is so spelled, and nothing else is
 use Rattle.std.specs.Prelude.{◌≡◌, ℕ, ◌-◌, ◌<◌, List, length, ℤ, Some, None}
-use Rattle.ptb_words.specs.declared.word.Number.TheVariants.{Absent, Value, TooBig}
-use Rattle.ptb_words.specs.declared.word.Table.TheVariants.{Functions}
-use Rattle.ptb_words.specs.declared.word.Word.TheVariants.{RndKw, AbsKw, SizeKw}
-use Rattle.ptb_words.specs.Words.{token_at, letter_at, word_at, number_at}
-use Rattle.ptb_words.specs.Finding.{LiesAhead}
+use Rattle.ptb_text.specs.declared.word.Number.TheVariants.{Absent, Value, TooBig}
+use Rattle.ptb_text.specs.declared.word.Table.TheVariants.{Functions}
+use Rattle.ptb_text.specs.declared.word.Word.TheVariants.{RndKw, AbsKw, SizeKw}
+use Rattle.ptb_text.specs.Words.{token_at, letter_at, word_at, number_at}
+use Rattle.ptb_text.specs.Finding.{LiesAhead}
 use Rattle.ptb_expr.specs.declared.fault.FaultKind.TheVariants.{How}
 use Rattle.ptb_expr.specs.declared.operator.Operator.{Operator}
 use Rattle.ptb_expr.specs.Operators.{product_operator, sum_operator, comparison}

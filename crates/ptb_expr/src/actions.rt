@@ -8,7 +8,7 @@ ghost use Rattle.ptb_expr.specs.Tree.{Tree, Num, Var, Size};
 
 use crate::fault::FaultKind;
 use crate::operator::Operator;
-use ptb_words::Letter;
+use ptb_text::Letter;
 
 /// What is done with one value.
 #[derive(Clone, Copy)]

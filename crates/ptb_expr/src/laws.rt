@@ -4,7 +4,7 @@ ghost use Rattle.ptb_expr.specs.Laws.{ValueLaws, CodeLaws};
 ghost use Rattle.ptb_expr.specs.Spells.{SpellingLaws};
 ghost use Rattle.ptb_expr.specs.Marks.{MarkLaws};
 
-use ptb_words::finding_laws;
+use ptb_text::finding_laws;
 
 /// What is read of an expression or a variable is spelled so by the grammar, in one way, and ends
 /// ahead within the text.

@@ -1,7 +1,7 @@
 //! Expressions of Tiny BASIC: the store of variables and array, and expressions, which are read
 //! (`reader.rt`) into steps and run (`step_runner.rt`).
 //!
-//! It stands on `ptb_words` and `ptb_answers`. The crate above may rely on
+//! It stands on `ptb_text` and `ptb_answers`. The crate above may rely on
 //! `evaluate` and `target`: whoever answers, their result is the one that `specs/Value` gives the tree
 //! that `specs/Spells` reads at the cursor, a value, a fault with its mark or a question. So is the
 //! result of `evaluate_in`, which is lent the room for the steps. `direct_value` has the value of an

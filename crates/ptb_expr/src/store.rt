@@ -6,7 +6,7 @@ ghost use Rattle.ptb_expr.specs.Store.{value_at, with_value, index_of, element_o
 ghost use Rattle.ptb_expr.specs.Store.{empty_cells};
 
 use crate::fault::FaultKind;
-use ptb_words::Letter;
+use ptb_text::Letter;
 use std::alloc::{AllocError, Global};
 use std::marker::Model;
 

@@ -3,16 +3,16 @@
 --     WordRows        rows of words and tokens
 use Rattle.std.specs.Prelude.{◌≡◌, ℕ, List, [], ◌∷◌, ◌++◌, Some, None, Ok, Err, pos, codes, replicate}
 use Rattle.ptb_text.specs.declared.fault.LoadFault.TheVariants.{NoNumber, NumberTooBig, TextTooLong, BadByte, Full}
-use Rattle.ptb_words.specs.declared.word.Table.TheVariants.{Commands, Functions, To, Step}
-use Rattle.ptb_words.specs.declared.word.Number.TheVariants.{Value, TooBig}
-use Rattle.ptb_words.specs.declared.word.Word.TheVariants.{NextKw, LetKw, IfKw, GotoKw, GosubKw}
-use Rattle.ptb_words.specs.declared.word.Word.TheVariants.{ReturnKw, RemKw, ForKw, InputKw, PrintKw}
-use Rattle.ptb_words.specs.declared.word.Word.TheVariants.{StopKw, RndKw, AbsKw, SizeKw, ToKw}
-use Rattle.ptb_words.specs.declared.word.Word.TheVariants.{StepKw}
+use Rattle.ptb_text.specs.declared.word.Table.TheVariants.{Commands, Functions, To, Step}
+use Rattle.ptb_text.specs.declared.word.Number.TheVariants.{Value, TooBig}
+use Rattle.ptb_text.specs.declared.word.Word.TheVariants.{NextKw, LetKw, IfKw, GotoKw, GosubKw}
+use Rattle.ptb_text.specs.declared.word.Word.TheVariants.{ReturnKw, RemKw, ForKw, InputKw, PrintKw}
+use Rattle.ptb_text.specs.declared.word.Word.TheVariants.{StopKw, RndKw, AbsKw, SizeKw, ToKw}
+use Rattle.ptb_text.specs.declared.word.Word.TheVariants.{StepKw}
 use Rattle.ptb_text.specs.Lines.{lines, input_lines}
 use Rattle.ptb_text.specs.Statements.{program, listing}
-use Rattle.ptb_words.specs.Words.{word_at, token_at, pair_at, letter_at, number_at, quotation_at}
-use Rattle.ptb_words.specs.Words.{NoQuote, OpenQuote, QuotedText}
+use Rattle.ptb_text.specs.Words.{word_at, token_at, pair_at, letter_at, number_at, quotation_at}
+use Rattle.ptb_text.specs.Words.{NoQuote, OpenQuote, QuotedText}
 
 -- a line and its newline
 abbrev pub line : List ℕ → List ℕ

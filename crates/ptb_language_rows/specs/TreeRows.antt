@@ -8,7 +8,7 @@ use Rattle.ptb_explore.specs.Beginnings.{beginnings}
 use Rattle.ptb_explore.specs.RunTree.{At, End, is_before, tree, runs_left}
 use Rattle.ptb_answers.specs.AnswerText.{answers_of, marked, spelling, unmarked}
 use Rattle.ptb_explore.specs.MarkedRuns.{states_bounds}
-use Rattle.ptb_report.specs.Report.{report_text}
+use Rattle.ptb_explore.specs.ReportText.{report_text}
 
 -- a list of one answer, and of two
 abbrev pub one : ℕ → Answers

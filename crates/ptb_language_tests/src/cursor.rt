@@ -1,7 +1,7 @@
 // This file tries the cursor at texts whose words, tokens, numbers and strings are known.
 
 use crate::shared::{cursor_in_front, expect_same};
-use ptb_words::{Cursor, Letter, Number, Quoted, Table, Word, is_all_blank, number_in_front};
+use ptb_text::{Cursor, Letter, Number, Quoted, Table, Word, is_all_blank, number_in_front};
 use std::process::Abort;
 
 // A table, a text, the word that is found in front of it, and the place after that.

@@ -1,14 +1,14 @@
 // This file tests expressions, variables, the store and the choosers, by worked rows.
 
 ghost use Rattle.std.specs.Prelude.{◌≡◌, ◌≤◌, ◌≤ℤ◌, length, pos, take, Some, IsTrue};
-ghost use Rattle.ptb_words.specs.Words.{is_letter};
+ghost use Rattle.ptb_text.specs.Words.{is_letter};
 
 use crate::shared::{cursor_in_front, expect_same};
 use ptb_expr::{
     Chooser, Fault, FaultKind, Listed, Operator, Pause, SavedStore, Seeded, ShortValue, Step,
     Steps, Stop, Store, Target, answer_to, direct_value, evaluate, plain_value, read_value, target,
 };
-use ptb_words::{Cursor, Letter};
+use ptb_text::{Cursor, Letter};
 use rand_core::utils::NextWord;
 use rand_pcg::Lcg64Xsh32;
 use std::alloc::{AllocError, Global};

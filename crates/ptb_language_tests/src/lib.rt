@@ -2,7 +2,7 @@
 //! listing, the cursor, and the results of expressions; of reports as they are written; and of the
 //! buffer before a writer.
 //!
-//! It depends on `ptb_words`, `ptb_text`, `ptb_expr` and `ptb_report`, and on `rand_core` and
+//! It depends on `ptb_text`, `ptb_expr` and `ptb_explore`, and on `rand_core` and
 //! `rand_pcg` for the words that a seed draws. No crate depends on it: a crate with tests is proved
 //! once more together with them, so these are kept apart from what they test.
 #![tactic(auto)]

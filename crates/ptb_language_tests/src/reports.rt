@@ -2,8 +2,8 @@
 // to a device that has no room for all of a report.
 
 use crate::shared::expect_same;
+use ptb_explore::ReportWriter;
 use ptb_expr::{Asked, Form};
-use ptb_report::ReportWriter;
 use ptb_text::{ByteSink, Device, DeviceFault};
 use std::alloc::{AllocError, Global};
 use std::io;

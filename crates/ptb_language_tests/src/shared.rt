@@ -1,6 +1,6 @@
 // This file has what all the tests use: values that must be the same.
 
-use ptb_words::Cursor;
+use ptb_text::Cursor;
 use std::fmt::Debug;
 use std::process::Abort;
 

@@ -6,7 +6,7 @@ use Rattle.rand_pcg.specs.Lcg.{Lcg}
 use Rattle.rand_pcg.specs.Pcg.{pcg32}
 use Rattle.ptb_text.specs.Statements.{StoredProgram}
 use Rattle.ptb_answers.specs.Outcome.{Answers, Outcome}
-use Rattle.ptb_answers.specs.Choices.{Asked, with_answers}
+use Rattle.ptb_answers.specs.Choices.{AsksFor, with_answers}
 use Rattle.ptb_answers.specs.Seeds.{SeededAnswers, RefusedForMemory, drawn_answer, drawn_from}
 use Rattle.ptb_answers.specs.Seeds.{generator_of, seeded_choices}
 use Rattle.ptb_answers.specs.Drawn.{answers_by, to_question}
@@ -21,7 +21,7 @@ use Rattle.ptb_machine.specs.SeededRuns.{IsDrawn, SeededLaws, seeded_answers}
 
 -- what is answered begins with what was taken, where that was drawn for its bounds
 pub drawn_first : {A W : Type 0} (most : ℕ) (g : Lcg) (f : Answers → Outcome A W) (ts : Answers) (bs : List ℤ)
-    → Few f most → Asked f ts bs → ts ≡ drawn_from g bs
+    → Few f most → AsksFor f ts bs → ts ≡ drawn_from g bs
     → (rest : Answers) × (answers_by most g f ≡ ts ++ rest)
 drawn_first most g f [] [] few asked e = (answers_by most g f, refl)
 drawn_first most g f [] (n ∷ bs) few asked e = absurd asked

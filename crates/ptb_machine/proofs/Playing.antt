@@ -13,22 +13,22 @@ use Rattle.ptb_text.specs.Statements.{StoredProgram}
 use Rattle.ptb_answers.specs.declared.pause.Pause.{Pause}
 use Rattle.ptb_answers.specs.declared.pause.Pause.TheVariants as pauses
 use Rattle.ptb_answers.specs.Outcome.{Answers, Outcome, Done, Asks, Out}
-use Rattle.ptb_answers.specs.Choices.{Asked, Choices, with_answers}
-use Rattle.ptb_command.specs.declared.ending.Ending.{Ending}
-use Rattle.ptb_command.specs.declared.ending.Ending.TheVariants as endings
+use Rattle.ptb_answers.specs.Choices.{AsksFor, Choices, with_answers}
+use Rattle.ptb_machine.specs.declared.ending.Ending.{Ending}
+use Rattle.ptb_machine.specs.declared.ending.Ending.TheVariants as endings
 use Rattle.ptb_machine.specs.declared.fault.RunFault.{RunFault}
 use Rattle.ptb_machine.specs.declared.fault.RunFault.TheVariants as runs
 use Rattle.ptb_answers.specs.declared.rules.Rules.{Rules}
 use Rattle.ptb_machine.specs.declared.run_end.RunEnd.{RunEnd}
 use Rattle.ptb_machine.specs.Play.{Finish, play, stopping_line, unasked_lines, plain, plain_of}
-use Rattle.ptb_command.specs.Effects.{Begins}
+use Rattle.ptb_machine.specs.Effects.{Begins}
 use Rattle.ptb_devices.specs.declared.fault.ReadFault.{ReadFault}
 use Rattle.ptb_devices.specs.declared.fault.ReadFault.TheVariants as reads
 use Rattle.ptb_devices.specs.Sources.{NoneLeft}
-use Rattle.ptb_command.specs.Breakage.{Breakage}
-use Rattle.ptb_command.specs.Breakage as errors
-use Rattle.ptb_command.specs.Devices.{ScreenState, Devices, devices, with_failures, Exchange, Refusal, refused_by}
-use Rattle.ptb_command.specs.Stops.{UnlessMissed}
+use Rattle.ptb_machine.specs.Breakage.{Breakage}
+use Rattle.ptb_machine.specs.Breakage as errors
+use Rattle.ptb_machine.specs.Devices.{ScreenState, Devices, devices, with_failures, Exchange, Refusal, refused_by}
+use Rattle.ptb_machine.specs.Stops.{UnlessMissed}
 use Rattle.ptb_machine.specs.PlayResults.{played_bytes, Plays, IsFinished, IsUnanswered}
 use Rattle.ptb_machine.specs.PlayResults.{IsUnfinished, LacksInput, RunComes}
 use Rattle.ptb_machine.specs.Runs.{run_miss, Runs, StopsAt, IsLineOf}
@@ -82,7 +82,7 @@ pub record IsUnreadRun (p : StoredProgram) (rules : Rules) (lines : List (List �
 module _ (p : StoredProgram) (rules : Rules) (a : Answers) (refuses : Pause → ℤ → Type 0) (noticed : Bool)
     (c d : Choices) (old new : ScreenState) (could can : ℕ) (given following : List (List ℕ)) (unread : ReadFault
     → Type 0) (left : Option (List (List ℕ)))
-    (led : (taken : Answers) (bounds : List ℤ) → Asked (play p (given ++ following) rules) taken bounds
+    (led : (taken : Answers) (bounds : List ℤ) → AsksFor (play p (given ++ following) rules) taken bounds
     → d ≡ with_answers taken bounds c → IsLed refuses taken a) where
   abbrev refused : Refusal → Type 0
   refused = refused_by (noted noticed refuses) unread left

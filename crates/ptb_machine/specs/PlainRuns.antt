@@ -25,9 +25,9 @@ use Rattle.ptb_text.specs.Statements.{StoredProgram}
 use Rattle.ptb_answers.specs.declared.pause.Pause.{Pause}
 use Rattle.ptb_answers.specs.declared.pause.Pause.TheVariants as pauses
 use Rattle.ptb_answers.specs.Outcome.{Answers}
-use Rattle.ptb_answers.specs.Choices.{Asked, Choices, with_answers}
-use Rattle.ptb_command.specs.declared.ending.Ending.{Ending}
-use Rattle.ptb_command.specs.declared.ending.Ending.TheVariants as endings
+use Rattle.ptb_answers.specs.Choices.{AsksFor, Choices, with_answers}
+use Rattle.ptb_machine.specs.declared.ending.Ending.{Ending}
+use Rattle.ptb_machine.specs.declared.ending.Ending.TheVariants as endings
 use Rattle.ptb_devices.specs.CutLines.{whole_lines}
 use Rattle.ptb_devices.specs.declared.fault.ReadFault.{ReadFault}
 use Rattle.ptb_devices.specs.declared.fault.ReadFault.TheVariants as reads
@@ -76,7 +76,7 @@ abbrev pub GoesBy : (Pause → ℤ → Type 0) → Choices → Choices → (List
     → Type 0
 GoesBy refuses c d answers p rules =
     (lines : List (List ℕ)) (taken : Answers) (bounds : List ℤ)
-    → Asked (play p lines rules) taken bounds → d ≡ with_answers taken bounds c → IsLed refuses taken (answers lines)
+    → AsksFor (play p lines rules) taken bounds → d ≡ with_answers taken bounds c → IsLed refuses taken (answers lines)
 
 -- ---- a line that can't be read
 

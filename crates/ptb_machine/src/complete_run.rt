@@ -1,18 +1,18 @@
 // This file does whole runs.
 
 ghost use Rattle.std.specs.Prelude.{◌≡◌, ℕ, ℤ, List, Option, false, IfOk};
-ghost use Rattle.ptb_command.specs.Representation.{Represents};
-ghost use Rattle.ptb_command.specs.State.{first_state};
+ghost use Rattle.ptb_machine.specs.Representation.{Represents};
+ghost use Rattle.ptb_machine.specs.State.{first_state};
 ghost use Rattle.ptb_machine.specs.RunDevices.{run_devices};
 ghost use Rattle.ptb_machine.specs.Runs.{IsRun, IsRunToEnd};
 ghost use Rattle.ptb_machine.specs.Steps.{FitsProgram};
 
+use crate::ending::Ending;
 use crate::fault::RunFault;
 use crate::machine::Machine;
 use crate::player::Player;
 use crate::run_end::RunEnd;
 use ptb_answers::{Chooser, Rules};
-use ptb_command::Ending;
 use ptb_devices::{LineSource, Screen};
 use ptb_text::Program;
 use std::alloc::{AllocError, Global};

@@ -2,14 +2,16 @@
 
 ghost use Rattle.std.specs.Prelude.{◌≡◌, ◌++◌, take, drop, IfOk};
 ghost use Rattle.ptb_expr.specs.Store.{Cells};
-ghost use Rattle.ptb_command.specs.Act.{ending_of, report_bytes};
-ghost use Rattle.ptb_command.specs.Devices.{Devices, screen_state, with_screen};
-ghost use Rattle.ptb_command.specs.Traces.{trace};
-ghost use Rattle.ptb_command.specs.Reports.{IsShown};
+ghost use Rattle.ptb_machine.specs.Act.{ending_of, report_bytes};
+ghost use Rattle.ptb_machine.specs.Devices.{Devices, screen_state, with_screen};
+ghost use Rattle.ptb_machine.specs.Traces.{trace};
+ghost use Rattle.ptb_machine.specs.Reports.{IsShown};
 
+use crate::ending::Ending;
+use crate::fault_words::fault_line;
+use crate::output::put;
 use arrayvec::{ArrayVec, CapacityError};
 use itoa::Buffer;
-use ptb_command::{Ending, fault_line, put};
 use ptb_devices::{Screen, ScreenFault};
 use ptb_expr::{Fault, FaultKind};
 

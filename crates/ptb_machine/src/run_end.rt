@@ -1,6 +1,6 @@
 // This file has how a run ended, and where.
 
-use ptb_command::Ending;
+use crate::ending::Ending;
 
 /// How a run ended, and where.
 #[derive(Clone, Copy, Debug, PartialEq, Eq)]

@@ -3,8 +3,7 @@
 
 use crate::runs::expect_end;
 use crate::shared::{MEMORY, expect_same, letter};
-use ptb_command::{Location, Operation, ProgramCode, Registers};
-use ptb_machine::Ending;
+use ptb_machine::{Ending, Location, Operation, ProgramCode, Registers};
 use ptb_text::{Device, LoadFault, Program, load};
 use std::alloc::{AllocError, Global};
 use std::process::Abort;

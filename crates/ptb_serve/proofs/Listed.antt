@@ -16,7 +16,7 @@ use Rattle.ptb_answers.specs.Outcome.{Answers, Outcome}
 use Rattle.ptb_devices.specs.declared.fault.ReadFault.{ReadFault}
 use Rattle.ptb_devices.specs.declared.fault.ReadFault.TheVariants as reads
 use Rattle.ptb_devices.specs.Sources.{ConsumesAtMost}
-use Rattle.ptb_command.specs.Effects.{Begins}
+use Rattle.ptb_machine.specs.Effects.{Begins}
 use Rattle.ptb_answers.specs.declared.rules.Rules.{Rules}
 use Rattle.ptb_machine.specs.Play.{Finish, play}
 use Rattle.ptb_machine.specs.Questions.{most_answers}

@@ -33,7 +33,7 @@ use Rattle.ptb_explore.specs.Chances.{table, table_text}
 use Rattle.ptb_explore.specs.Laws.{ReportLaws, TreeLaws}
 use Rattle.ptb_explore.specs.Listing.{text}
 use Rattle.ptb_explore.specs.MarkedRuns.{IsMarkedBeginning, IsMarkedRun}
-use Rattle.ptb_report.specs.Report.{report_text}
+use Rattle.ptb_explore.specs.ReportText.{report_text}
 use Rattle.ptb_explore.specs.Report.{report, ending_word}
 use Rattle.ptb_explore.specs.Sampling.{concatenated}
 use Rattle.ptb_explore.specs.RunTree.{IsRun, Before, IsRising, answers_to, begins_with, tree}

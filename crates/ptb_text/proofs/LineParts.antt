@@ -16,11 +16,11 @@ use Rattle.ptb_text.specs.Lines.{is_printable}
 use Rattle.ptb_text.specs.Statements.{HasText, Statements, StoredProgram, after_line, after_trimmed}
 use Rattle.ptb_text.specs.Statements.{after_statement, unless_bad_byte, trim_start, with_text, cost}
 use Rattle.ptb_text.specs.Statements.{if_room, is_statement, text_limit}
-use Rattle.ptb_words.specs.Digits.{number_limit, digits_value, is_digit, is_blank}
+use Rattle.ptb_text.specs.Digits.{number_limit, digits_value, is_digit, is_blank}
 use Rattle.ptb_text.specs.Entry.{Enters, EntersNothing, IsLineFault, IsRefused, IsNumbered}
-use Rattle.ptb_words.specs.declared.word.Number.{Number}
-use Rattle.ptb_words.specs.declared.word.Number.TheVariants.{Absent, Value, TooBig}
-use Rattle.ptb_words.specs.Words.{past_blanks, number_at, small_number}
+use Rattle.ptb_text.specs.declared.word.Number.{Number}
+use Rattle.ptb_text.specs.declared.word.Number.TheVariants.{Absent, Value, TooBig}
+use Rattle.ptb_text.specs.Words.{past_blanks, number_at, small_number}
 use Rattle.ptb_text.proofs.ByteTests.{list_all-from_none, list_all-drop, prefix_len-following}
 
 -- a text without the blanks in front has none in front

@@ -23,7 +23,7 @@ use Rattle.ptb_text.specs.Places.{IsGapFor, statement_number}
 use Rattle.ptb_text.specs.Statements.{Statements, after_line, after_lines, after_statement, cost}
 use Rattle.ptb_text.specs.Statements.{is_program, is_statement, line_of, listing, text_limit}
 use Rattle.ptb_text.specs.Statements.{trim_start, with_text, IsText}
-use Rattle.ptb_words.specs.Digits.{digits_value, is_blank, is_digit}
+use Rattle.ptb_text.specs.Digits.{digits_value, is_blank, is_digit}
 use Rattle.ptb_text.proofs.ByteTests.{none_from_list_all, prefix_len-whole}
 use Rattle.ptb_text.proofs.Edits.{both, one_cost}
 use Rattle.ptb_text.proofs.Entries.{with_text-gap}

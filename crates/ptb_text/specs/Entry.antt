@@ -13,7 +13,7 @@ use Rattle.ptb_text.specs.declared.fault.LoadFault.TheVariants.{TooLong}
 use Rattle.ptb_text.specs.Lines.{is_printable}
 use Rattle.ptb_text.specs.Statements.{Statements, StoredProgram, after_line, after_statement}
 use Rattle.ptb_text.specs.Statements.{text_after_number, trim_start}
-use Rattle.ptb_words.specs.Digits.{number_limit}
+use Rattle.ptb_text.specs.Digits.{number_limit}
 
 abbrev pub EntersNothing : List ℕ → Type 0
 EntersNothing line = (p : Statements) (memory : ℕ) → after_line p memory line ≡ Ok p

@@ -24,7 +24,7 @@ use Rattle.std.specs.FinMap.Entries.{where_key}
 use Rattle.ptb_text.specs.declared.fault.LoadFault.{LoadFault}
 use Rattle.ptb_text.specs.declared.fault.LoadFault.TheVariants.{NoNumber, NumberTooBig, TextTooLong, BadByte, Full}
 use Rattle.ptb_text.specs.Lines.{is_printable, program_lines}
-use Rattle.ptb_words.specs.Digits.{is_blank, is_digit, digits_value, number_limit}
+use Rattle.ptb_text.specs.Digits.{is_blank, is_digit, digits_value, number_limit}
 
 -- ---- the map
 

@@ -1,30 +1,39 @@
-//! Program texts of Tiny BASIC: readers and writers, the lines of a text, and the statements under
-//! their numbers.
+//! Texts of Tiny BASIC: readers and writers; words, letters, numbers and quotations at a place of a
+//! text, and the cursor that finds them; the lines of a program text, and the statements under their
+//! numbers.
 //!
-//! It depends on `ptb_words`, whose names it passes on, and on `arrayvec`, `itoa`, `thiserror` and
-//! std. The crate above may rely on `load` (the statements that a text results in, or which of its
-//! lines is refused first), on the look-ups of `Program`, and on `OutputBuffer` (a writer gets what
-//! was put into it, in this order).
+//! It stands on `arrayvec`, `itoa`, `thiserror` and std. The crate above may rely on `Cursor` (each
+//! call finds what `specs/Words` says is at its place, and takes only that), on `finding_laws`, on
+//! `load` (the statements that a text has, or which of its lines is refused first), on the look-ups of
+//! `Program`, and on `OutputBuffer` (a writer gets what was put into it, in this order).
 #![tactic(auto)]
 
 mod byte_buffer;
 mod byte_streams;
+mod cursor;
 mod device;
 mod fault;
 mod laws;
+mod letter;
 mod line;
 mod listing;
 mod loader;
 mod output_buffer;
 mod program;
+mod spelling;
+mod word;
+mod word_laws;
 
 pub use byte_buffer::ByteBuffer;
 pub use byte_streams::{ByteSink, ByteSource};
+pub use cursor::{Cursor, is_all_blank, number_in_front};
 pub use device::{Device, DeviceFault, Read, Write};
 pub use fault::LoadFault;
 pub use laws::statement_laws;
+pub use letter::Letter;
 pub use listing::list;
 pub use loader::{load, split_line};
 pub use output_buffer::OutputBuffer;
 pub use program::Program;
-pub use ptb_words::{Cursor, Letter, Number, Quoted, Table, Word, finding_laws};
+pub use word::{Number, Quoted, Table, Word};
+pub use word_laws::finding_laws;

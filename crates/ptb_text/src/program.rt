@@ -11,7 +11,7 @@ ghost use Rattle.ptb_text.specs.Statements.{HasText, IsMemorySize, IsSound, IsTe
 ghost use Rattle.ptb_text.specs.Statements.{cost};
 ghost use Rattle.ptb_text.specs.Statements.{first_number, if_room, is_statement, number_above};
 ghost use Rattle.ptb_text.specs.Statements.{size_of, text_limit, text_under};
-ghost use Rattle.ptb_words.specs.Digits.{number_limit};
+ghost use Rattle.ptb_text.specs.Digits.{number_limit};
 ghost use Rattle.ptb_text.specs.Statements.{with_text, without_number};
 ghost use Rattle.ptb_text.specs.Places.{IsAt, IsGapFor, statement_at};
 ghost use Rattle.ptb_text.specs.Program.{laid_out, lengths, texts_length};

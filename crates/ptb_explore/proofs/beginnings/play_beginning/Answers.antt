@@ -6,7 +6,7 @@ use Rattle.ptb_machine.specs.Play.{play}
 use Rattle.ptb_machine.specs.Questions.{most_answers}
 use Rattle.ptb_answers.specs.Asked.{answers_in, bounds_in}
 use Rattle.ptb_explore.specs.Recorders.{choices_of, recorded}
-use Rattle.ptb_report.proofs.WrittenReports.{on_err_always}
+use Rattle.ptb_explore.proofs.WrittenTexts.{on_err_always}
 use Rattle.ptb_explore.proofs.Keep.{kept_same}
 use Rattle.ptb_explore.proofs.Recorded.{given_answers, recorded_len, same_bounds}
 use Rattle.ptb_explore.proofs.Runners.{changed}

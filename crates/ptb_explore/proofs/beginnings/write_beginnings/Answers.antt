@@ -1,7 +1,7 @@
 -- This file answers that the lines that are written are those of the lists that were left, in their order.
 use Rattle.std.proofs.Common.{rules, ◌∙◌, ap, refl, Err}
 use Rattle.ptb_explore.proofs.Exits.{ok_no_err}
-use Rattle.ptb_report.proofs.WrittenReports.{failed_after}
+use Rattle.ptb_explore.proofs.WrittenTexts.{failed_after}
 use Rattle.ptb_explore.proofs.WrittenLines.{game_reads, line_begun, line_refused, no_line}
 use Rattle.ptb_explore.proofs.WrittenLines.{one_line_fewer, one_line_more, same_search}
 use Rattle.ptb_explore.proofs.WrittenReports.{memory_no_write, memory_told}

@@ -2,7 +2,7 @@
 use Rattle.std.proofs.Common.{rules, ◌∙◌, ap, refl, Err}
 use Rattle.std.proofs.Math.Nat.{le_trans}
 use Rattle.ptb_explore.proofs.Exits.{ok_no_err}
-use Rattle.ptb_report.proofs.WrittenReports.{failed_after}
+use Rattle.ptb_explore.proofs.WrittenTexts.{failed_after}
 use Rattle.ptb_explore.proofs.WrittenReports.{memory_no_write, memory_told, same_after, all_wanted}
 use Rattle.ptb_explore.proofs.WrittenReports.{none_next, list_refused, part_written, one_fewer}
 use Rattle.ptb_explore.proofs.WrittenReports.{one_more}

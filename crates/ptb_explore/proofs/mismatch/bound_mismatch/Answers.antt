@@ -5,7 +5,7 @@ use Rattle.ptb_answers.specs.declared.asked.Asked.{Asked}
 use Rattle.ptb_answers.specs.declared.form.Marked.{Marked}
 use Rattle.ptb_answers.specs.AnswerText.{without_bound}
 use Rattle.ptb_answers.specs.Asked.{bounds_in}
-use Rattle.ptb_report.proofs.AskedLists.{bound_at, length-bounds_in}
+use Rattle.ptb_explore.proofs.AskedLists.{bound_at, length-bounds_in}
 use Rattle.ptb_explore.specs.MarkedRuns.{is_bound}
 use Rattle.ptb_explore.proofs.Mismatches.{other_bound, states_more}
 use Rattle.ptb_explore.proofs.Order.{same_from}

@@ -5,7 +5,7 @@ use Rattle.std.proofs.lemmas.Bool.{cases_lt}
 use Rattle.ptb_answers.specs.declared.asked.Asked.{Asked}
 use Rattle.ptb_answers.specs.Asked.{answers_in, bounds_in}
 use Rattle.ptb_explore.specs.Plans.{IsAtBound}
-use Rattle.ptb_report.proofs.AskedLists.{answer_at, bound_at}
+use Rattle.ptb_explore.proofs.AskedLists.{answer_at, bound_at}
 use Rattle.ptb_explore.proofs.plan.last_below.Goals as goal
 
 pub returns-clause-place : goal.returns-clause-place

@@ -8,8 +8,8 @@ use Rattle.ptb_answers.specs.declared.asked.Asked.{Asked}
 use Rattle.ptb_answers.specs.AnswerText.{answers_of}
 use Rattle.ptb_answers.specs.Asked.{answers_in, bounds_in}
 use Rattle.ptb_explore.specs.Plans.{AreAtBounds, HasPlan, IsLastBelow}
-use Rattle.ptb_report.proofs.AskedLists.{answer_at, length-answers_in}
-use Rattle.ptb_report.proofs.WrittenReports.{on_err_always}
+use Rattle.ptb_explore.proofs.AskedLists.{answer_at, length-answers_in}
+use Rattle.ptb_explore.proofs.WrittenTexts.{on_err_always}
 use Rattle.ptb_explore.proofs.Mismatches.{answers_length, take_twice}
 use Rattle.ptb_explore.proofs.plan.plan_next.Goals as goal
 

@@ -1,7 +1,7 @@
 -- This file answers that a run is played step by step with the answers that are drawn, and how it ends.
 use Rattle.std.proofs.Common.{◌≡◌, ◌∙◌, [], refl, ap, true, false, Ok, Err, Some, None}
 use Rattle.ptb_answers.specs.Seeds.{RefusedForMemory, drawn_from, seeded_choices}
-use Rattle.ptb_command.specs.State.{first_state}
+use Rattle.ptb_machine.specs.State.{first_state}
 use Rattle.ptb_devices.specs.Sources.{LineList}
 use Rattle.ptb_machine.specs.Play.{play}
 use Rattle.ptb_explore.proofs.RunPrefix.{advanced, step_goes, run_prefix_at_first, none_follow}

@@ -3,8 +3,8 @@ use Rattle.std.proofs.Common.{◌≡◌, ◌∙◌, ap, refl, Some, Ok, Err, rul
 use Rattle.std.specs.Prelude.{unsigned_abs}
 use Rattle.std.proofs.lemmas.Result.{err_from_is_err_and}
 use Rattle.ptb_answers.specs.declared.pause.Pause.TheVariants as pauses
-use Rattle.ptb_command.specs.declared.stop.Stop.TheVariants as stops
-use Rattle.ptb_command.specs.CommandIo.{io_devices}
+use Rattle.ptb_machine.specs.declared.stop.Stop.TheVariants as stops
+use Rattle.ptb_machine.specs.CommandIo.{io_devices}
 use Rattle.ptb_machine.proofs.Results.{result_done, result_stopped, result_reported}
 use Rattle.ptb_machine.proofs.stop_result.result_of.Goals as goal
 

@@ -2,7 +2,7 @@
 use Rattle.std.proofs.Common.{arith, ◌≡◌, refl, sym, ap, subst, ◌∙◌, Some, None}
 use Rattle.std.specs.Prelude.{option_map}
 use Rattle.std.proofs.lemmas.Result.{IfOk-from_err}
-use Rattle.ptb_command.specs.Configuration.{Configuration}
+use Rattle.ptb_machine.specs.Configuration.{Configuration}
 use Rattle.ptb_devices.specs.Sources.{LineList}
 use Rattle.ptb_answers.specs.Asked.{answers_in, bounds_in}
 use Rattle.ptb_explore.specs.Recorders.{given_bounds, recorded}
@@ -13,7 +13,7 @@ use Rattle.ptb_explore.proofs.Exits.{on_ok_always}
 use Rattle.ptb_explore.proofs.RestoredCopies.{same_plan, none_taken, no_copies, begun_prefix, begun_steps, copy_left}
 use Rattle.ptb_explore.proofs.Recorded.{skipped_bounds}
 use Rattle.ptb_explore.proofs.Trial.{fresh_plan}
-use Rattle.ptb_report.proofs.AskedLists.{length-bounds_in}
+use Rattle.ptb_explore.proofs.AskedLists.{length-bounds_in}
 use Rattle.ptb_explore.proofs.runner.Runner.go_back.Goals as goal
 
 pub returns-in_err-go_back : goal.returns-in_err-go_back

@@ -7,7 +7,7 @@ use Rattle.ptb_machine.specs.Questions.{most_answers}
 use Rattle.ptb_answers.specs.Asked.{answers_in, bounds_in}
 use Rattle.ptb_explore.specs.Recorders.{recorded}
 use Rattle.ptb_explore.specs.Plans.{front_at, HasPlan, PlansNext}
-use Rattle.ptb_report.proofs.WrittenReports.{on_err_always}
+use Rattle.ptb_explore.proofs.WrittenTexts.{on_err_always}
 use Rattle.ptb_explore.proofs.Exits.{on_some_at}
 use Rattle.ptb_explore.proofs.ContinuedCopies.{next_agrees, next_played, position_copies}
 use Rattle.ptb_explore.proofs.Mismatches.{if_some_at}

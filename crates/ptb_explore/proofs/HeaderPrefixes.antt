@@ -1,0 +1,215 @@
+-- This file proves how a header grows item by item, and where it may be cut.
+-- Main lemma: `begins_kept`.
+use Rattle.std.proofs.Common.{inl, inr, min, decimal, ◌≡◌, ◌∙◌, ap, refl, sym, subst, arith, ℕ}
+use Rattle.std.proofs.Common.{zero, suc, ◌+◌, ◌<◌, ◌≤◌, ◌⊎◌, List, [], ◌∷◌, ◌++◌, codes, get_or}
+use Rattle.std.proofs.Common.{length, take, drop, append_assoc, append-nil, length-append, Option}
+use Rattle.std.specs.Prelude.{ℤ, Bool, ◌==◌, if◌then◌else◌}
+use Rattle.std.proofs.lemmas.Bool.{ne_eqb}
+use Rattle.std.proofs.lemmas.List.{get_or-take, length-take, length-take-le, take-append-drop}
+use Rattle.std.proofs.lemmas.List.{take-append-le, take-map, take_more, take_all}
+use Rattle.std.proofs.Math.ListN.{get_or-append}
+use Rattle.std.proofs.Math.Nat.{eq-or-lt_of_le}
+use Rattle.std.proofs.lemmas.List.Concat.{flat_map-append}
+use Rattle.std.proofs.Math.Seq.{get_or-append_seam, take-length}
+use Rattle.ptb_answers.specs.declared.form.Form.{Form}
+use Rattle.ptb_answers.specs.declared.form.Form.TheVariants.{One, Two}
+use Rattle.ptb_answers.specs.declared.form.Marked.{Marked}
+use Rattle.ptb_answers.specs.AnswerText.{in_form, item_text, more_spelling, spelling}
+use Rattle.ptb_explore.specs.declared.report_writer.KeptItem.{KeptItem}
+use Rattle.ptb_explore.specs.Begun.{joined, begun, item_of, items_of, AreEnds, BeginsWith, KeepsItem}
+use Rattle.ptb_explore.specs.ReportText.{field, report_ending, report_text}
+use Rattle.ptb_explore.proofs.ReportText.{comma_and}
+
+-- ---- prefixes
+
+pub begins_front : (s t : List ℕ) → BeginsWith (s ++ t) s
+begins_front s t = take-append-le (length s) s t (omega arith) ∙ take-length s
+
+-- what a prefix begins with, the text begins with
+pub begins_shorter : (text s t : List ℕ) → BeginsWith text (s ++ t) → BeginsWith text s
+begins_shorter text s t h =
+    let is : text ≡ s ++ (t ++ drop (length (s ++ t)) text) = sym (take-append-drop (length (s ++ t)) text)
+    ∙ ap (λ z. z ++ drop (length (s ++ t)) text) h ∙ append_assoc s t (drop (length (s ++ t)) text) in
+    ap (take (length s)) is ∙ begins_front s (t ++ drop (length (s ++ t)) text)
+
+pub begins_within : (text front : List ℕ) → BeginsWith text front → length front ≤ length text
+begins_within text front h = omega (arith, length-take (length front) text, ap length h)
+
+pub begins_longer : (new old s : List ℕ) → BeginsWith new old → BeginsWith old s → BeginsWith new s
+begins_longer new old s h g =
+    let is : old ≡ s ++ drop (length s) old = sym (take-append-drop (length s) old)
+    ∙ ap (λ z. z ++ drop (length s) old) g in
+    begins_shorter new s (drop (length s) old) (subst (BeginsWith new) is h)
+
+-- ---- items
+
+-- one item more
+pub joined_more : (xs : List Marked) (m : Marked)
+    → joined (xs ++ m ∷ []) ≡ joined xs ++ ((if length xs == 0 then [] else codes ",") ++ item_text m)
+joined_more [] m = append-nil (item_text m)
+joined_more (x ∷ xs) m =
+    ap (λ z. item_text x ++ z) (flat_map-append comma_and xs (m ∷ [])
+    ∙ ap (λ z. more_spelling xs ++ z) (append-nil (comma_and m)))
+    ∙ sym (append_assoc (item_text x) (more_spelling xs) (comma_and m))
+    ∙ ap (λ (b : Bool). (item_text x ++ more_spelling xs) ++ ((if b then [] else codes ",") ++ item_text m))
+    (sym (ne_eqb (length (x ∷ xs)) 0 (λ e. omega (arith, e))))
+
+pub begun_more : (xs : List Marked) (m : Marked) (k : ℕ) → length xs ≡ k
+    → begun (xs ++ m ∷ []) ≡ begun xs ++ ((if k == 0 then [] else codes ",") ++ item_text m)
+begun_more xs m k is =
+    ap (λ z. codes "RUN " ++ z) (joined_more xs m)
+    ∙ sym (append_assoc (codes "RUN ") (joined xs) ((if length xs == 0 then [] else codes ",") ++ item_text m))
+    ∙ ap (λ (n : ℕ). begun xs ++ ((if n == 0 then [] else codes ",") ++ item_text m)) is
+
+-- more items
+joined_longer : (xs ys : List Marked) → (rest : List ℕ) × (joined (xs ++ ys) ≡ joined xs ++ rest)
+joined_longer [] ys = (joined ys, refl)
+joined_longer (x ∷ xs) ys = (
+  more_spelling ys,
+  ap (λ z. item_text x ++ z) (flat_map-append comma_and xs ys)
+      ∙ sym (append_assoc (item_text x) (more_spelling xs) (more_spelling ys)),
+)
+
+pub begins_with_fewer : (text : List ℕ) (xs ys : List Marked) → BeginsWith text (begun (xs ++ ys))
+    → BeginsWith text (begun xs)
+begins_with_fewer text xs ys h =
+    let l = joined_longer xs ys in
+    let is : begun (xs ++ ys) ≡ begun xs ++ l.0 = ap (λ z. codes "RUN " ++ z) l.1
+    ∙ sym (append_assoc (codes "RUN ") (joined xs) l.0) in
+    begins_shorter text (begun xs) l.0 (subst (BeginsWith text) is h)
+
+pub begins_with_first : (text : List ℕ) (xs : List Marked) (n : ℕ) → BeginsWith text (begun xs)
+    → BeginsWith text (begun (take n xs))
+begins_with_first text xs n h =
+    begins_with_fewer text (take n xs) (drop n xs)
+    (subst (λ z. BeginsWith text (begun z)) (sym (take-append-drop n xs)) h)
+
+-- an item as a form has it
+in_form_is : (form : Form) (a n : ℤ) → in_form form a n ≡ record { answer = a; bound = (in_form form a n).bound }
+in_form_is One a n = refl
+in_form_is Two a n = refl
+
+pub is_in_form : (form : Form) (a b n m : ℤ) (bound : Option ℤ) → b ≡ a → m ≡ n
+    → ((answer : ℤ) → bound ≡ (in_form form answer m).bound) → record { answer = b; bound = bound } ≡ in_form form a n
+is_in_form form a b n m bound answers bounds has =
+    ap (λ (x : ℤ). record { answer = x; bound = bound }) answers ∙ ap (λ (o : Option ℤ). record {
+      answer = a;
+      bound = o;
+    }) (has a ∙ ap (λ (y : ℤ). (in_form form a y).bound) bounds) ∙ sym (in_form_is form a n)
+
+-- a report is its header up to the end of its items, and what comes after them
+ending_joined : (r a w s z n t m : List ℕ)
+    → (r ++ a) ++ (w ++ s ++ z ++ n ++ t ++ m) ≡ r ++ a ++ w ++ s ++ z ++ n ++ t ++ m
+ending_joined r a w s z n t m = simp append_assoc
+
+spelling_is : (items : List Marked) → 0 < length items → joined items ≡ spelling items
+spelling_is [] some = absurd (omega (arith, some))
+spelling_is (m ∷ items) some = refl
+
+pub report_from_begun : (items : List Marked) (word : List ℕ) (steps : ℕ) (shown : List ℕ) → 0 < length items
+    → begun items ++ report_ending word steps shown ≡ report_text items word steps shown
+report_from_begun items word steps shown some =
+    ap (λ z. (codes "RUN " ++ z) ++ report_ending word steps shown) (spelling_is items some)
+    ∙ ending_joined (codes "RUN ") (spelling items) (field word) (field (decimal steps))
+    (field (decimal (length shown))) (codes "\n") shown (codes "\n")
+
+-- ---- what is kept
+
+take_take : {X : Type 0} (m n : ℕ) (xs : List X) → m ≤ n → take m (take n xs) ≡ take m xs
+take_take zero n xs h = refl
+take_take (suc m) zero xs h = absurd (omega (arith, h))
+take_take (suc m) (suc n) [] h = refl
+take_take (suc m) (suc n) (x ∷ xs) h = ap (λ l. x ∷ l) (take_take m n xs (omega (arith, h)))
+
+pub items_cut : (kept : List KeptItem) (c : ℕ) → items_of (take c kept) ≡ take c (items_of kept)
+items_cut kept c = sym (take-map item_of c kept)
+
+pub ends_cut : (kept : List KeptItem) (c : ℕ) → AreEnds kept → AreEnds (take c kept)
+ends_cut kept c h k x within =
+    let l : length (take c kept) ≡ min c (length kept) = length-take c kept in
+    let in_cut : k < c = omega (arith, within, l) in
+    let in_kept : k < length kept = omega (arith, within, l) in
+    let same : take (k + 1) (items_of kept) ≡ take (k + 1) (items_of (take c kept)) =
+    sym (ap (take (k + 1)) (items_cut kept c) ∙ take_take (k + 1) c (items_of kept) (omega (arith, in_cut))) in
+    ap (λ (z : KeptItem). z.end) (get_or-take c kept k x in_cut) ∙ h k x in_kept ∙ ap (λ z. length (begun z)) same
+
+items_push : (kept : List KeptItem) (e : KeptItem) → items_of (kept ++ e ∷ []) ≡ items_of kept ++ item_of e ∷ []
+items_push [] e = refl
+items_push (x ∷ kept) e = ap (λ l. item_of x ∷ l) (items_push kept e)
+
+pub length-items_of : (kept : List KeptItem) → length (items_of kept) ≡ length kept
+length-items_of [] = refl
+length-items_of (x ∷ kept) = ap suc (length-items_of kept)
+
+ends_push : (kept : List KeptItem) (e : KeptItem) → AreEnds kept
+    → e.end ≡ length (begun (items_of kept ++ item_of e ∷ [])) → AreEnds (kept ++ e ∷ [])
+ends_push kept e h is k x within = at (eq-or-lt_of_le most)
+  where
+    most : k ≤ length kept
+    most = omega (arith, within, length-append kept (e ∷ []))
+
+    at : (k ≡ length kept) ⊎ (k < length kept)
+        → (get_or (kept ++ e ∷ []) k x).end ≡ length (begun (take (k + 1) (items_of (kept ++ e ∷ []))))
+    at (inl last) =
+        let all : take (k + 1) (items_of (kept ++ e ∷ [])) ≡ items_of kept ++ item_of e ∷ [] =
+        take_all (k + 1) (items_of (kept ++ e ∷ []))
+        (omega (arith, last, length-items_of (kept ++ e ∷ []), length-append kept (e ∷ []))) ∙ items_push kept e in
+        ap (λ n. (get_or (kept ++ e ∷ []) n x).end) last ∙ ap (λ (z : KeptItem). z.end) (get_or-append_seam kept e [] x)
+        ∙ is ∙ ap (λ z. length (begun z)) (sym all)
+    at (inr before) =
+        let same : take (k + 1) (items_of kept) ≡ take (k + 1) (items_of (kept ++ e ∷ [])) =
+        sym (ap (take (k + 1)) (items_push kept e) ∙ take-append-le (k + 1) (items_of kept) (item_of e ∷ [])
+        (omega (arith, before, length-items_of kept))) in
+        ap (λ (z : KeptItem). z.end) (get_or-append kept (e ∷ []) x k before) ∙ h k x before
+        ∙ ap (λ z. length (begun z)) same
+
+-- ---- item after item: items are all of them, of which k were added; m is the next
+
+module _ (items : List Marked) (k : ℕ) (m : Marked) (within : k < length items) (next : m ≡ get_or items k m) where
+  added : take (k + 1) items ≡ take k items ++ m ∷ []
+  added = take_more items k m within ∙ ap (λ x. take k items ++ x ∷ []) (sym next)
+
+  pub text_added : (text new : List ℕ) → text ≡ begun (take k items)
+      → new ≡ text ++ ((if k == 0 then [] else codes ",") ++ item_text m) → new ≡ begun (take (k + 1) items)
+  text_added text new is grown =
+      grown ∙ ap (λ z. z ++ ((if k == 0 then [] else codes ",") ++ item_text m)) is
+      ∙ sym (begun_more (take k items) m k (length-take-le k items (omega (arith, within)))) ∙ ap begun (sym added)
+
+  module _ (kept new : List KeptItem) (e : KeptItem) (keeps : KeepsItem k e kept new) (same : item_of e ≡ m)
+      (is : items_of kept ≡ take (length kept) items) (most : length kept ≤ k) where
+    pub items_kept : items_of new ≡ take (length new) items
+    items_kept = at keeps
+      where
+        at : KeepsItem k e kept new → items_of new ≡ take (length new) items
+        at (inl one) =
+            ap items_of one.1 ∙ items_push kept e ∙ ap (λ x. x ++ item_of e ∷ []) (is ∙ ap (λ n. take n items) one.0)
+            ∙ ap (λ x. take k items ++ x ∷ []) same ∙ sym added
+            ∙ ap (λ n. take n items) (omega (arith, one.0, ap length one.1, length-append kept (e ∷ [])))
+        at (inr none) = ap items_of none ∙ is ∙ ap (λ (z : List KeptItem). take (length z) items) (sym none)
+
+    pub most_kept : length new ≤ k + 1
+    most_kept = at keeps
+      where
+        at : KeepsItem k e kept new → length new ≤ k + 1
+        at (inl one) = omega (arith, one.0, ap length one.1, length-append kept (e ∷ []))
+        at (inr none) = omega (arith, most, ap length none)
+
+    pub ends_kept : AreEnds kept → e.end ≡ length (begun (take (k + 1) items)) → AreEnds new
+    ends_kept h end = at keeps
+      where
+        at : KeepsItem k e kept new → AreEnds new
+        at (inl one) =
+            let all : take (k + 1) items ≡ items_of kept ++ item_of e ∷ [] =
+            added ∙ ap (λ x. take k items ++ x ∷ []) (sym same)
+            ∙ ap (λ x. x ++ item_of e ∷ []) (sym (is ∙ ap (λ n. take n items) one.0)) in
+            subst AreEnds (sym one.1) (ends_push kept e h (end ∙ ap (λ z. length (begun z)) all))
+        at (inr none) = subst AreEnds (sym none) h
+
+-- a text of the first k items begins with those that are kept
+pub begins_kept : (items : List Marked) (k : ℕ) (text : List ℕ) (kept : List KeptItem) → text ≡ begun (take k items)
+    → items_of kept ≡ take (length kept) items → length kept ≤ k → BeginsWith text (begun (items_of kept))
+begins_kept items k text kept is of most =
+    let whole : BeginsWith text (begun (take k items)) =
+    subst (λ z. BeginsWith z (begun (take k items))) (sym is) (take-length (begun (take k items))) in
+    let first = begins_with_first text (take k items) (length kept) whole in
+    subst (λ z. BeginsWith text (begun z)) (take_take (length kept) k items most ∙ sym of) first

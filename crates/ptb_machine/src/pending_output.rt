@@ -1,0 +1,146 @@
+// This file gathers what a command shows, so that the screen gets it at once.
+
+ghost use Rattle.std.specs.Prelude.{◌≡◌, ◌↔◌, ◌≤◌, ◌+◌, ◌++◌, ◌∷◌, List, ℕ, [], length};
+ghost use Rattle.std.specs.Prelude.{IsTrue, IsFalse};
+ghost use Rattle.ptb_expr.specs.Store.{Cells};
+ghost use Rattle.ptb_machine.specs.Actions.{goes_on, show as show_action};
+ghost use Rattle.ptb_machine.specs.Devices.{Devices, screen_state, with_screen, nothing_refused};
+ghost use Rattle.ptb_machine.specs.Traces.{trace, with_due};
+ghost use Rattle.ptb_machine.specs.Stops.{Comes};
+
+use crate::output::show;
+use crate::stop::Stop;
+use ptb_devices::Screen;
+use ptb_text::ByteBuffer;
+use std::marker::Model;
+
+/// How many bytes are gathered at most. An item of PRINT shows no more than 255.
+pub const PENDING_LIMIT: usize = 512;
+
+/// What a command is to show, and hasn't shown yet. It takes no memory. Contracts see its bytes.
+#[derive(Drop)]
+pub struct PendingOutput {
+    buffer: ByteBuffer<PENDING_LIMIT>,
+}
+
+impl Model for PendingOutput {
+    ghost use Rattle.std.specs.Prelude.{List, ℕ};
+
+    ghost Value = { List ℕ };
+
+    ghost view = { λ g. g.buffer };
+}
+
+impl PendingOutput {
+    /// Nothing is gathered yet.
+    pub fn new() -> Self
+        ensures { result ≡ [] }
+    {
+        PendingOutput {
+            buffer: ByteBuffer::new(),
+        }
+    }
+
+    /// The bytes that were gathered.
+    pub fn as_slice(&self) -> &[u8]
+        ensures { result.now ≡ self.now }
+    {
+        self.buffer.as_slice()
+    }
+
+    /// Takes what was gathered away.
+    #[inline(always)]
+    pub(crate) fn clear(&mut self)
+        ensures { self.new ≡ [] }
+    {
+        self.buffer.clear();
+    }
+
+    /// Takes bytes, if there is room for all of them. Whether there was.
+    #[inline(always)]
+    pub fn try_append(&mut self, bytes: &[u8]) -> bool
+        ensures taken { IsTrue result → self.new ≡ self.old ++ bytes.now }
+        ensures full { IsFalse result → self.new ≡ self.old }
+        ensures room { IsTrue result ↔ (length self.old + length bytes.now ≤ PENDING_LIMIT) }
+    {
+        self.buffer.try_append(bytes)
+    }
+
+    /// Takes bytes and others after them, if there is room for all of them. Whether there was.
+    #[inline(always)]
+    pub(crate) fn try_append_both(&mut self, first: &[u8], second: &[u8]) -> bool
+        ensures taken { IsTrue result → self.new ≡ self.old ++ first.now ++ second.now }
+        ensures full { IsFalse result → self.new ≡ self.old }
+        ensures room { IsTrue result ↔
+            (length self.old + (length first.now + length second.now) ≤ PENDING_LIMIT) }
+    {
+        let room = self.buffer.room();
+        if first.len() > room || second.len() > room - first.len() {
+            return false;
+        }
+        self.buffer.append(first);
+        self.buffer.append(second);
+        true
+    }
+
+    /// Shows what was gathered. Nothing is gathered then, also where the screen fails.
+    pub(crate) fn flush<S: Screen>(&mut self, screen: &mut S, fresh: &mut bool) -> Result<(), Stop>
+        ensures comes { (d : Devices) (cells : Cells) → Comes nothing_refused
+            (with_due self.old
+            (trace (with_screen (screen_state S.Screen screen.old) d) fresh.old cells))
+            (trace (with_screen (screen_state S.Screen screen.new) d) fresh.new cells)
+            (goes_on tt) goes_on result }
+        ensures empty { self.new ≡ [] }
+    {
+        let result = show(screen, fresh, self.as_slice());
+        self.clear();
+        result
+    }
+
+    /// Shows bytes as a part of a command: later, with others, if there is room for them.
+    // inlined: most bytes find room, and to take them costs less than a call
+    #[inline(always)]
+    pub(crate) fn show<S: Screen>(
+        &mut self,
+        screen: &mut S,
+        fresh: &mut bool,
+        bytes: &[u8],
+    ) -> Result<(), Stop>
+        ensures comes { (d : Devices) (cells : Cells) → Comes nothing_refused
+            (with_due self.old
+            (trace (with_screen (screen_state S.Screen screen.old) d) fresh.old cells))
+            (with_due self.new
+            (trace (with_screen (screen_state S.Screen screen.new) d) fresh.new cells))
+            (show_action bytes.now) goes_on result }
+        ensures gathered { length self.old + length bytes.now ≤ PENDING_LIMIT
+            → self.new ≡ self.old ++ bytes.now }
+    {
+        if self.try_append(bytes) {
+            return Ok(());
+        }
+        self.flush_and_append(screen, fresh, bytes)
+    }
+
+    // Shows what was gathered, and after it bytes for which there was no room: these later, if
+    // there is room then.
+    #[inline(never)]
+    fn flush_and_append<S: Screen>(
+        &mut self,
+        screen: &mut S,
+        fresh: &mut bool,
+        bytes: &[u8],
+    ) -> Result<(), Stop>
+        ensures { (d : Devices) (cells : Cells) → Comes nothing_refused
+            (with_due self.old
+            (trace (with_screen (screen_state S.Screen screen.old) d) fresh.old cells))
+            (with_due self.new
+            (trace (with_screen (screen_state S.Screen screen.new) d) fresh.new cells))
+            (show_action bytes.now) goes_on result }
+    {
+        self.flush(screen, fresh)?;
+        if self.try_append(bytes) {
+            return Ok(());
+        }
+        show(screen, fresh, bytes)
+    }
+}

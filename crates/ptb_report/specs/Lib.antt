@@ -1,3 +1,0 @@
--- This file names the files of definitions.
-pub mod Begun
-pub mod Report

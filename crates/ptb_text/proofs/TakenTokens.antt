@@ -1,0 +1,141 @@
+-- This file proves what a cursor takes: its text is x, and n is the next place without a blank.
+-- Main lemmas: `letter_taken`, `number_value` and `word_taken`.
+use Rattle.std.proofs.Common.{◌≡◌, ℕ, ◌+◌, ◌-◌, ◌<◌, ◌≤◌, ◌∙◌, true, cond, List, length}
+use Rattle.std.proofs.Common.{take, drop, min, Some, None, refl, sym, ap, arith, ℤ, pos}
+use Rattle.std.proofs.Common.{length-take-le, length-drop, to_z, of_z, w16, w64, Fits, SFits, inl}
+use Rattle.std.proofs.Common.{inr}
+use Rattle.std.specs.Prelude.{◌==◌, position}
+use Rattle.std.specs.List.{prefix_len, slice_range}
+use Rattle.std.proofs.lemmas.Bool.{ne_eqb, le-leb, lt-leb, cases_lt}
+use Rattle.std.proofs.lemmas.Int.{ints, to_z-of_z}
+use Rattle.std.proofs.lemmas.List.{take_rest}
+use Rattle.std.proofs.lemmas.List.Sums.{prefix_len-le-length}
+use Rattle.std.proofs.lemmas.Option.{cond_some}
+use Rattle.ptb_text.specs.declared.cursor.TheConstants.{TOO_BIG}
+use Rattle.ptb_text.specs.declared.word.Table.{Table}
+use Rattle.ptb_text.specs.declared.word.Word.{Word}
+use Rattle.ptb_text.specs.declared.word.Number.{Number}
+use Rattle.ptb_text.specs.declared.word.Number.TheVariants.{Absent, Value, TooBig}
+use Rattle.ptb_text.specs.CursorState.{CursorState, bytes_left}
+use Rattle.ptb_text.specs.Digits.{is_digit, digits_value}
+use Rattle.ptb_text.specs.Words.{past_blanks, next_byte_at, words, first_word, word_at, is_letter}
+use Rattle.ptb_text.specs.Words.{letter_there, letter_at, small_number, number_at, is_number, is_quote}
+use Rattle.ptb_text.specs.Words.{quotation_at, QuotedText, OpenQuote}
+use Rattle.ptb_text.specs.Finding.{LiesAhead, past_byte}
+use Rattle.ptb_text.proofs.FoundParts.{number_ahead}
+
+-- what follows from a place on, as the code cuts it
+abbrev pub following : List ℕ → ℕ → List ℕ
+following x n = take (length x - n) (drop n x)
+
+-- ---- where a cursor is
+
+pub text_is : {v s : CursorState} → v ≡ s → v.text ≡ s.text
+text_is e = ap (λ (s : CursorState). s.text) e
+
+pub next_is : {v s : CursorState} {n : ℕ} → v ≡ s → n ≡ past_blanks v.text v.place → n ≡ past_blanks s.text s.place
+next_is e at = at ∙ ap (λ (s : CursorState). past_blanks s.text s.place) e
+
+-- what is found leaves fewer bytes
+pub ahead_left : (a b : CursorState) → a.text ≡ b.text → LiesAhead b.text b.place a.place → bytes_left a < bytes_left b
+ahead_left a b e h = omega (arith, ap length e, h.after, h.within)
+
+-- a number that is taken leaves fewer bytes
+pub number_left : (a b : CursorState) (n : Number) → a.text ≡ b.text → number_at b.text b.place ≡ (n, a.place)
+    → is_number n ≡ true → bytes_left a < bytes_left b
+number_left a b n same found some = ahead_left a b same (number_ahead b.text b.place n a.place found some)
+
+-- ---- a quotation
+
+pub quotation_closed : (t x : List ℕ) (i n m q k p : ℕ) → x ≡ t → n ≡ past_blanks t i → m ≡ past_blanks t i
+    → next_byte_at t i ≡ Some q → is_quote q ≡ true → position (λ b. b == q) (following x (n + 1)) ≡ Some k
+    → p ≡ past_blanks t (m + 1 + k + 1) → quotation_at t i ≡ QuotedText (take k (following x (n + 1))) p
+unfolding quotation_at
+quotation_closed t x i n m q k p same at goes byte quote found place =
+    let there = rw (take_rest x (n + 1), same, at) at found in
+    rw (place, take_rest x (n + 1), same, at, goes, byte, quote, there) refl
+
+pub quotation_open : (t x : List ℕ) (i n q : ℕ) → x ≡ t → n ≡ past_blanks t i → next_byte_at t i ≡ Some q
+    → is_quote q ≡ true → position (λ b. b == q) (following x (n + 1)) ≡ None → quotation_at t i ≡ OpenQuote
+unfolding quotation_at
+quotation_open t x i n q same at byte quote found =
+    let there = rw (take_rest x (n + 1), same, at) at found in
+    rw (byte, quote, there) refl
+
+pub quoted_piece : (t x : List ℕ) (i n k : ℕ) → x ≡ t → n ≡ past_blanks t i → k < length (following x (n + 1))
+    → take k (following x (n + 1)) ≡ slice_range t (past_blanks t i + 1)
+    (past_blanks t i + 1 + length (take k (following x (n + 1))))
+quoted_piece t x i n k same at h =
+    let size : length (take k (following x (n + 1))) ≡ k = length-take-le k (following x (n + 1)) (omega arith) in
+    let part : past_blanks t i + 1 + k - (past_blanks t i + 1) ≡ k = omega arith in
+    rw (size, part, take_rest x (n + 1), same, at) refl
+
+-- ---- a number
+
+pub digits_within : (t x : List ℕ) (i n k : ℕ) → x ≡ t → n ≡ past_blanks t i → n ≤ length x
+    → k ≡ prefix_len is_digit (following x n) → past_blanks t i + k ≤ length t
+digits_within t x i n k same at h count =
+    let most = rw (take_rest x n) at (prefix_len-le-length is_digit (following x n)) in
+    let there = rw (take_rest x n) at count in
+    rw (sym at, sym same) (omega (arith, most, length-drop n x, there))
+
+pub fits_within : (a b : ℕ) → a ≤ b → b < 18446744073709551616 → Fits w64 a
+fits_within a b h k = omega arith
+
+pub number_absent : (t x : List ℕ) (i n k : ℕ) → x ≡ t → n ≡ past_blanks t i → k ≡ prefix_len is_digit (following x n)
+    → k ≡ 0 → number_at t i ≡ (Absent, i)
+unfolding number_at
+number_absent t x i n k same at count none =
+    let there = rw (take_rest x n, same, at, none) at count in
+    rw (sym there) refl
+
+-- a number that is there, whichever it is
+number_there : (t x : List ℕ) (i n m k : ℕ) → x ≡ t → n ≡ past_blanks t i → m ≡ past_blanks t i
+    → k ≡ prefix_len is_digit (following x n) → (k ≡ 0 → ⊥)
+    → number_at t i ≡ (small_number (digits_value (take k (following x n))), past_blanks t (m + k))
+unfolding number_at
+number_there t x i n m k same at goes count some =
+    let there = rw (take_rest x n, same, at) at count in
+    rw (take_rest x n, same, at, goes, sym there, ne_eqb k 0 some) refl
+
+pub number_value : (t x : List ℕ) (i n m k v p : ℕ) (z : ℤ) → x ≡ t → n ≡ past_blanks t i → m ≡ past_blanks t i
+    → k ≡ prefix_len is_digit (following x n) → (k ≡ 0 → ⊥) → v ≡ min (digits_value (take k (following x n))) TOO_BIG
+    → SFits w16 (pos v) × (z ≡ pos v) → p ≡ past_blanks t (m + k) → number_at t i ≡ (Value (to_z w16 (of_z w16 z)), p)
+number_value t x i n m k v p z same at goes count some value fits place =
+    let low : v ≤ 32767 = omega (arith, ints, fits.0) in
+    let all : digits_value (take k (following x n)) ≡ v = omega (arith, value, low) in
+    let kept : to_z w16 (of_z w16 z) ≡ pos v = rw fits.1 (to_z-of_z w16 (pos v) fits.0) in
+    number_there t x i n m k same at goes count some ∙ rw (place, kept, all, le-leb v 32767 low) refl
+
+pub number_too_big : (t x : List ℕ) (i n m k v p : ℕ) → x ≡ t → n ≡ past_blanks t i → m ≡ past_blanks t i
+    → k ≡ prefix_len is_digit (following x n) → (k ≡ 0 → ⊥) → v ≡ min (digits_value (take k (following x n))) TOO_BIG
+    → (SFits w16 (pos v) → ⊥) → p ≡ past_blanks t (m + k) → number_at t i ≡ (TooBig, p)
+number_too_big t x i n m k v p same at goes count some value big place =
+    let high : 32767 < v = elim (cases_lt 32767 v) [
+      | inl h ↦ h
+      | inr h ↦ let fits : SFits w16 (pos v) = omega (arith, ints) in absurd (big fits)
+    ] in
+    let all : 32767 < digits_value (take k (following x n)) = omega (arith, value, high) in
+    number_there t x i n m k same at goes count some
+    ∙ rw (place, lt-leb (digits_value (take k (following x n))) 32767 all) refl
+
+-- ---- a letter
+
+pub letter_taken : (t : List ℕ) (i b l p : ℕ) → letter_at t i ≡ letter_there t (past_blanks t i) (Some b)
+    → Some l ≡ cond (is_letter b) (Some b) None → p ≡ past_byte t i → letter_at t i ≡ Some (l, p)
+letter_taken t i b l p e found place =
+    let h = cond_some (is_letter b) b l (sym found) in
+    e ∙ rw (h.0, place, h.1) refl
+
+-- ---- a word
+
+pub word_none : (table : Table) (t x : List ℕ) (i n : ℕ) → x ≡ t → n ≡ past_blanks t i
+    → first_word (words table) x n ≡ None → word_at table t i ≡ None
+unfolding word_at
+word_none table t x i n same at found = rw (same, at) at found
+
+pub word_taken : (table : Table) (t x : List ℕ) (i n : ℕ) (w : Word) (end p : ℕ) → x ≡ t → n ≡ past_blanks t i
+    → first_word (words table) x n ≡ Some (w, past_blanks x end) → p ≡ past_blanks t end
+    → word_at table t i ≡ Some (w, p)
+unfolding word_at
+word_taken table t x i n w end p same at found place = rw place (rw (same, at) at found)

@@ -1,0 +1,310 @@
+// This file has a cursor over a text, which takes what is there piece by piece.
+
+ghost use Rattle.std.specs.Prelude.{◌≡◌, ℕ, ◌+◌, ◌<◌, ◌≤◌, length, if◌then◌else◌, Some, None};
+ghost use Rattle.std.specs.Prelude.{IsTrue, IsFalse, IsSome, IsNone, IfSome, option_map, take, min};
+ghost use Rattle.std.specs.Prelude.{position, ◌==◌};
+ghost use Rattle.std.specs.List.{prefix_len};
+ghost use Rattle.ptb_text.specs.CursorState.{CursorState, bytes_left};
+ghost use Rattle.ptb_text.specs.Digits.{is_digit, digits_value};
+ghost use Rattle.ptb_text.specs.Finding.{past_byte, StandsNext};
+ghost use Rattle.ptb_text.specs.Words.{past_blanks, next_byte_at, is_over, token_at, pair_at};
+ghost use Rattle.ptb_text.specs.Words.{letter_at, number_at, is_number, quotation_at, quotation_of};
+ghost use Rattle.ptb_text.specs.Words.{is_text, IsPieceFrom, word_at, IsWordOf};
+
+use crate::letter::Letter;
+use crate::spelling::table_word_at;
+use crate::word::{Number, Quoted, Table, Word};
+use std::marker::Model;
+
+// stands for every number that is too big
+const TOO_BIG: u32 = 32768;
+
+/// A place in a text.
+///
+/// Each call passes the blanks at the place, takes what it finds with the blanks after it, and
+/// takes nothing else. A call that finds nothing leaves the place as it was, before the blanks. The
+/// text stays the same. It has at most 255 bytes.
+#[derive(Debug, Drop)]
+pub struct Cursor<'a> {
+    text: &'a [u8],
+    place: usize,
+    // the first place from there on at which there is no blank
+    next: usize,
+}
+
+impl<'a> Model for Cursor<'a> {
+    ghost Value = { CursorState };
+
+    ghost view = { λ c. record { text = c.text.now; place = c.place } };
+
+    ghost invariant = { λ c. (c.next ≡ past_blanks c.text.now c.place) × (c.place ≤ c.next)
+        × (c.next ≤ length c.text.now) × (length c.text.now ≤ 255) };
+}
+
+// Where the blanks at `place` end.
+fn after_blanks(text: &[u8], place: usize) -> usize
+    requires { place ≤ length text.now }
+    ensures value { result ≡ past_blanks text.now place }
+    ensures from { place ≤ result }
+    ensures within { result ≤ length text.now }
+{
+    let mut at = place;
+    while at < text.len() && text[at] == b' ' {
+        at += 1;
+    }
+    at
+}
+
+// What the digits in front of the text write, and how many they are.
+#[tactic(auto, using(crate::proofs::Digits::digits_more, crate::proofs::Digits::digits_stop, crate::proofs::Digits::digits_end, crate::proofs::Digits::digits_value_more))]
+fn leading_digits(text: &[u8]) -> (u32, usize)
+    ensures value { result.0 ≡ min (digits_value (take result.1 text.now)) TOO_BIG }
+    ensures count { result.1 ≡ prefix_len is_digit text.now }
+{
+    let mut value: u32 = 0;
+    for (count, byte) in text.iter().enumerate() {
+        if !byte.is_ascii_digit() {
+            return (value, count);
+        }
+        value = (value * 10 + u32::from(*byte - b'0')).min(TOO_BIG);
+    }
+    (value, text.len())
+}
+
+// How many bytes are before the first byte that is this one.
+fn bytes_before(text: &[u8], byte: u8) -> Option<usize>
+    ensures value { result ≡ position (λ b. b == byte) text.now }
+    ensures within { IfSome result (λ count. count < length text.now) }
+{
+    text.iter().position(|b| *b == byte)
+}
+
+/// The number in front of a text, blanks before it aside, and the place after it and the blanks
+/// that follow. The text may have any length.
+///
+/// As [`Cursor::number`] at place 0: a number over 32767 is passed too, and where there is no digit
+/// the place is 0.
+pub fn number_in_front(text: &[u8]) -> (Number, usize)
+    ensures value { number_at text.now 0 ≡ (result.0, result.1) }
+    ensures within { result.1 ≤ length text.now }
+{
+    let start = after_blanks(text, 0);
+    let (value, count) = leading_digits(&text[start..]);
+    if count == 0 {
+        return (Number::Absent, 0);
+    }
+    let place = after_blanks(text, start + count);
+    match i16::try_from(value) {
+        Ok(value) => (Number::Value(value), place),
+        Err(_) => (Number::TooBig, place),
+    }
+}
+
+/// Whether a text of any length has nothing but blanks.
+pub fn is_all_blank(text: &[u8]) -> bool
+    ensures { result ≡ is_over text.now 0 }
+{
+    after_blanks(text, 0) == text.len()
+}
+
+impl<'a> Cursor<'a> {
+    /// A cursor at a place of a text, which counts the bytes before it: at most the text's length.
+    ///
+    /// The text has at most 255 bytes, as every statement and every input line has.
+    pub fn new(text: &'a [u8], place: usize) -> Self
+        requires within { place ≤ length text.now }
+        requires short { length text.now ≤ 255 }
+        ensures { result ≡ record { text = text.now; place = place } }
+    {
+        let next = after_blanks(text, place);
+        Cursor { text, place, next }
+    }
+
+    /// How many bytes are before the place.
+    pub fn place(&self) -> usize
+        ensures { result ≡ self.now.place }
+    {
+        self.place
+    }
+
+    /// States that the place lies within the text, which has at most 255 bytes. It does nothing.
+    #[inline(always)]
+    pub fn bounds(&self)
+        ensures within { self.now.place ≤ length self.now.text }
+        ensures short { length self.now.text ≤ 255 }
+    {
+        let _within = self.place;
+    }
+
+    /// The whole text.
+    pub fn text(&self) -> &'a [u8]
+        ensures { result.now ≡ self.now.text }
+    {
+        self.text
+    }
+
+    /// Goes to a place of the text: at most its length. What was taken after it can be taken again.
+    pub fn go_to(&mut self, place: usize)
+        requires { place ≤ length self.old.text }
+        ensures { self.new ≡ record { text = self.old.text; place = place } }
+    {
+        *self = Cursor::new(self.text, place);
+    }
+
+    /// Whether only blanks follow from the place on.
+    pub fn at_end(&self) -> bool
+        ensures { result ≡ is_over self.now.text self.now.place }
+    {
+        self.next == self.text.len()
+    }
+
+    // Goes to the place `end`, and past the blanks there.
+    #[tactic(auto, using(crate::proofs::Blanks::past_blanks_twice))]
+    fn pass_to(&mut self, end: usize)
+        requires { end ≤ length self.old.text }
+        ensures text { self.new.text ≡ self.old.text }
+        ensures place { self.new.place ≡ past_blanks self.old.text end }
+        ensures from { end ≤ self.new.place }
+    {
+        self.place = after_blanks(self.text, end);
+        self.next = self.place;
+    }
+
+    /// The next byte, or `None` at the end. Nothing is taken.
+    ///
+    /// It says what can be found at the place, so that a caller need not try anything else.
+    pub fn next_byte(&self) -> Option<u8>
+        ensures { StandsNext self.now.text self.now.place result }
+    {
+        self.text.get(self.next).copied()
+    }
+
+    /// Takes the next byte, whichever it is. There must be one, as `next_byte` says.
+    pub fn take_byte(&mut self)
+        requires { IsSome (next_byte_at self.old.text self.old.place) }
+        ensures place { self.new.place ≡ past_byte self.old.text self.old.place }
+        ensures text { self.new.text ≡ self.old.text }
+        ensures taken { bytes_left self.new < bytes_left self.old }
+    {
+        self.pass_to(self.next + 1);
+    }
+
+    /// Takes this byte, if it is next.
+    pub fn token(&mut self, byte: u8) -> bool
+        ensures value { token_at byte self.old.text self.old.place
+            ≡ (if result then Some self.new.place else None) }
+        ensures text { self.new.text ≡ self.old.text }
+        ensures taken { IsTrue result → bytes_left self.new < bytes_left self.old }
+        ensures left { bytes_left self.new ≤ bytes_left self.old }
+        ensures absent { IsFalse result → self.new.place ≡ self.old.place }
+    {
+        match self.next_byte() {
+            Some(next) if next == byte => {
+                self.take_byte();
+                true
+            }
+            _ => false,
+        }
+    }
+
+    /// Takes these two bytes, if they are next with nothing between them.
+    #[tactic(auto, using(crate::proofs::Pairs::pair_there, crate::proofs::Pairs::pair_other, crate::proofs::Pairs::pair_other_second, crate::proofs::Pairs::pair_cut))]
+    pub fn pair(&mut self, first: u8, second: u8) -> bool
+        ensures value { pair_at first second self.old.text self.old.place
+            ≡ (if result then Some self.new.place else None) }
+        ensures text { self.new.text ≡ self.old.text }
+        ensures taken { IsTrue result → bytes_left self.new < bytes_left self.old }
+        ensures left { bytes_left self.new ≤ bytes_left self.old }
+        ensures absent { IsFalse result → self.new.place ≡ self.old.place }
+    {
+        if self.next + 1 < self.text.len()
+            && self.text[self.next] == first
+            && self.text[self.next + 1] == second
+        {
+            self.pass_to(self.next + 2);
+            true
+        } else {
+            false
+        }
+    }
+
+    /// Takes a letter A to Z, if one is next.
+    pub fn letter(&mut self) -> Option<Letter>
+        ensures value { letter_at self.old.text self.old.place
+            ≡ option_map (λ b. (b, self.new.place)) result }
+        ensures text { self.new.text ≡ self.old.text }
+        ensures taken { IsSome result → bytes_left self.new < bytes_left self.old }
+        ensures left { bytes_left self.new ≤ bytes_left self.old }
+        ensures absent { IsNone result → self.new.place ≡ self.old.place }
+    {
+        let byte = self.next_byte()?;
+        let letter = Letter::new(byte)?;
+        self.take_byte();
+        Some(letter)
+    }
+
+    /// Takes the longest run of digits that is next.
+    ///
+    /// A number over 32767 is taken too. Where there is no digit, nothing is taken.
+    pub fn number(&mut self) -> Number
+        ensures value { number_at self.old.text self.old.place ≡ (result, self.new.place) }
+        ensures text { self.new.text ≡ self.old.text }
+        ensures taken { IsTrue (is_number result) → bytes_left self.new < bytes_left self.old }
+        ensures left { bytes_left self.new ≤ bytes_left self.old }
+        ensures absent { IsFalse (is_number result) → self.new.place ≡ self.old.place }
+    {
+        let (value, count) = leading_digits(&self.text[self.next..]);
+        if count == 0 {
+            return Number::Absent;
+        }
+        self.pass_to(self.next + count);
+        match i16::try_from(value) {
+            Ok(value) => Number::Value(value),
+            Err(_) => Number::TooBig,
+        }
+    }
+
+    /// Takes the first word of the table that is next, whole or cut with a period.
+    #[inline(always)]
+    pub fn word(&mut self, table: Table) -> Option<Word>
+        ensures value { word_at table self.old.text self.old.place
+            ≡ option_map (λ w. (w, self.new.place)) result }
+        ensures word { IfSome result (IsWordOf table) }
+        ensures text { self.new.text ≡ self.old.text }
+        ensures taken { IsSome result → bytes_left self.new < bytes_left self.old }
+        ensures left { bytes_left self.new ≤ bytes_left self.old }
+        ensures absent { IsNone result → self.new.place ≡ self.old.place }
+    {
+        if self.next == self.text.len() {
+            return None;
+        }
+        let (word, end) = table_word_at(self.text, self.next, table)?;
+        self.pass_to(end);
+        Some(word)
+    }
+
+    /// Takes a string with its quotes, which are alike: `'` or `"`.
+    ///
+    /// Its text borrows from the source. Where a quote has no partner, nothing is taken.
+    pub fn quoted(&mut self) -> Quoted<'a>
+        ensures value { quotation_at self.old.text self.old.place
+            ≡ quotation_of result self.new.place }
+        ensures piece { IsPieceFrom (past_blanks self.old.text self.old.place + 1)
+            self.old.text result }
+        ensures text { self.new.text ≡ self.old.text }
+        ensures taken { IsTrue (is_text result) → bytes_left self.new < bytes_left self.old }
+        ensures left { bytes_left self.new ≤ bytes_left self.old }
+        ensures absent { IsFalse (is_text result) → self.new.place ≡ self.old.place }
+    {
+        let quote = match self.next_byte() {
+            Some(byte) if byte == b'"' || byte == b'\'' => byte,
+            _ => return Quoted::Absent,
+        };
+        let rest = &self.text[self.next + 1..];
+        let Some(count) = bytes_before(rest, quote) else {
+            return Quoted::Unclosed;
+        };
+        self.pass_to(self.next + 1 + count + 1);
+        Quoted::Text(&rest[..count])
+    }
+}

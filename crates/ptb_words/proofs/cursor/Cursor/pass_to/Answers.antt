@@ -1,6 +1,0 @@
--- This file proves goals of `pass_to` by short searches, so that a planted bug is refused soon.
-use Rattle.std.proofs.Common.{rules}
-use Rattle.ptb_words.proofs.cursor.Cursor.pass_to.Goals as goal
-
-pub returns-clause-place : goal.returns-clause-place
-returns-clause-place c = search rules fits 50 depth 2
