@@ -29,7 +29,7 @@ compiled() {
 
 kit=$(dirname "$(dirname "$(readlink -f "$(command -v rt)")")")
 compiled "${CC:-cc}" 2>/dev/null || compiled "$kit/toolchain/bin/clang" -fuse-ld=lld || exit 1
-for crate in ptb_language_tests ptb_numbers_tests ptb_chances_tests ptb_machine_tests ptb_tests; do
+for crate in ptb_language_tests ptb_machine_tests ptb_tests; do
     [ -x "$root/crates/$crate/out/${crate}_tests" ] || (cd "$root/crates/$crate" && rt test >/dev/null) || exit 1
 done
 export PYTHONPATH=$root/tests/shared PTB STRIKE_LIBRARY=$folder/strike.so

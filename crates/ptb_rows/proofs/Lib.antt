@@ -17,3 +17,10 @@ pub mod ListRows
 pub mod SplitRows
 pub mod CheckRows
 pub mod ChanceRows
+pub mod LoadingRows
+pub mod ExpressionRows
+pub mod PlayRows
+pub mod TreeRows
+pub mod TableRows
+pub mod SampledRunRows
+pub mod MistakeRows

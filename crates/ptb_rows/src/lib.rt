@@ -1,12 +1,21 @@
-//! Worked rows of the complete tool: the results of requests and command lines, by the definitions.
+//! Worked rows: the results of texts, words, expressions, runs, mistakes, trees of runs, samples and
+//! tables of chances (`language_rows.rt`), and those of requests and command lines (`rows.rt`), by
+//! the definitions.
 //!
 //! It depends on `ptb_serve`, `ptb_options`, the crates below them and `clap`. No crate depends on
-//! it. Its rows hold of the definitions; its tests run `serve` on them, over readers and writers
-//! that move few bytes, fail, or never end.
+//! it, so neither a build of the program nor the trial of a planted bug computes its rows. They hold
+//! of the definitions; its tests run `serve` on those of requests, over readers and writers that
+//! move few bytes, fail, or never end.
 #![tactic(auto)]
 
+mod language_rows;
 mod rows;
 
+pub use language_rows::{
+    answer_rows, array_rows, input_rows, loading_rows, long_rows, loop_rows, mistake_rows,
+    print_rows, report_rows, run_fault_rows, sampled_run_rows, step_rows, table_rows, tree_rows,
+    value_rows, word_rows,
+};
 pub use rows::{
     after_rows, all_rows, chance_rows, check_rows, choice_rows, clash_rows, example_rows,
     fault_rows, list_rows, listing_rows, long_run_rows, option_rows, program_rows, refusal_rows,

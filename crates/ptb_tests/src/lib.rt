@@ -1,5 +1,5 @@
-//! Tests of the parts of the tool, over their public names: the explorer and its reports, the command
-//! line, runs, notes, and the writer of standard output.
+//! Tests of the parts of the tool, over their public names: the explorer and its reports, tables of
+//! chances, the command line, runs, notes, and the writer of standard output.
 //!
 //! It depends on the libraries of the tool and on `clap`. No crate depends on it: a crate with
 //! tests is proved once more together with them, so these are kept apart from what they test.
@@ -7,6 +7,8 @@
 
 #[cfg(test)]
 mod beginnings;
+#[cfg(test)]
+mod chances;
 #[cfg(test)]
 mod command_line;
 #[cfg(test)]

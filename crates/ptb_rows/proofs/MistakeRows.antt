@@ -1,12 +1,12 @@
 -- This file proves the worked rows of mistakes by computation.
--- Main lemma: `check_rows`.
+-- Main lemma: `mistake_rows`.
 use Rattle.std.specs.Prelude.{refl}
-use Rattle.ptb_language_rows.proofs.OnPrograms.{on_programs}
-use Rattle.ptb_language_rows.specs.CheckRows.{CheckRows}
+use Rattle.ptb_rows.proofs.OnPrograms.{on_programs}
+use Rattle.ptb_rows.specs.MistakeRows.{MistakeRows}
 
-pub check_rows : CheckRows
+pub mistake_rows : MistakeRows
 unfolding on_programs
-check_rows = record {
+mistake_rows = record {
   no_mistake = refl;
   in_rising_order = refl;
   up_to_a_malformed_one = refl;

@@ -1,5 +1,5 @@
 -- This file has worked rows of the mistakes in the text of a program.
---     CheckRows     the rows
+--     MistakeRows     the rows
 use Rattle.std.specs.Prelude.{◌≡◌, ℕ, List, [], Option, Some, None, Ok, Err, codes}
 use Rattle.ptb_text.specs.Statements.{program}
 use Rattle.ptb_check.specs.Mistakes.{mistakes_text}
@@ -8,7 +8,7 @@ use Rattle.ptb_check.specs.Mistakes.{mistakes_text}
 abbrev pub told : List ℕ → Option (List ℕ)
 told b = elim (program 4096 b) [ Ok p ↦ Some (mistakes_text p) | Err e ↦ None ]
 
-pub record CheckRows : Type 0 where
+pub record MistakeRows : Type 0 where
   pub no_mistake : told (codes "10 PRINT \"HI\"\n") ≡ Some []
   pub in_rising_order :
       told (codes "30 LET A=(3+4, X=4\n20 GOTO 412\n10 IF 0 PTINT \"X\"\n")

@@ -1,6 +1,7 @@
 // This file tests natural numbers: sums, products, quotients, their order and their decimals.
 
-use crate::shared::{expect_number, expect_same};
+use crate::decimals::expect_number;
+use crate::shared::expect_same;
 use ptb_numbers::Natural;
 use std::alloc::{AllocError, Global};
 use std::cmp::Ordering;

@@ -1,22 +1,22 @@
-// This file states that the worked rows hold of the definitions.
+// This file states that the worked rows of the language hold of the definitions.
 
-ghost use Rattle.ptb_language_rows.specs.TextRows.{LoadingRows, WordRows};
-ghost use Rattle.ptb_language_rows.specs.ExpressionRows.{ValueRows};
-ghost use Rattle.ptb_language_rows.specs.PlayRows.{AnswerRows, PrintRows, InputRows, LoopRows};
-ghost use Rattle.ptb_language_rows.specs.PlayRows.{FaultRows, ArrayRows, LongRows, StepRows};
-ghost use Rattle.ptb_language_rows.specs.TreeRows.{RunRows, ReportRows};
-ghost use Rattle.ptb_language_rows.specs.ChanceRows.{ChanceRows};
-ghost use Rattle.ptb_language_rows.specs.SampleRows.{SampleRows};
-ghost use Rattle.ptb_language_rows.specs.CheckRows.{CheckRows};
+ghost use Rattle.ptb_rows.specs.LoadingRows.{LoadingRows, WordRows};
+ghost use Rattle.ptb_rows.specs.ExpressionRows.{ValueRows};
+ghost use Rattle.ptb_rows.specs.PlayRows.{AnswerRows, PrintRows, InputRows, LoopRows};
+ghost use Rattle.ptb_rows.specs.PlayRows.{RunFaultRows, ArrayRows, LongRows, StepRows};
+ghost use Rattle.ptb_rows.specs.TreeRows.{TreeRows, ReportRows};
+ghost use Rattle.ptb_rows.specs.TableRows.{TableRows};
+ghost use Rattle.ptb_rows.specs.SampledRunRows.{SampledRunRows};
+ghost use Rattle.ptb_rows.specs.MistakeRows.{MistakeRows};
 
 /// Worked rows of loading and listing.
-#[tactic(auto, using(crate::proofs::TextRows::loading_rows))]
+#[tactic(auto, using(crate::proofs::LoadingRows::loading_rows))]
 pub fn loading_rows()
     ensures { LoadingRows }
 {}
 
 /// Worked rows of words and tokens.
-#[tactic(auto, using(crate::proofs::TextRows::word_rows))]
+#[tactic(auto, using(crate::proofs::LoadingRows::word_rows))]
 pub fn word_rows()
     ensures { WordRows }
 {}
@@ -52,9 +52,9 @@ pub fn loop_rows()
 {}
 
 /// Worked rows of faults and their marks.
-#[tactic(auto, using(crate::proofs::PlayRows::fault_rows))]
-pub fn fault_rows()
-    ensures { FaultRows }
+#[tactic(auto, using(crate::proofs::PlayRows::run_fault_rows))]
+pub fn run_fault_rows()
+    ensures { RunFaultRows }
 {}
 
 /// Worked rows of assignments and the array.
@@ -76,9 +76,9 @@ pub fn step_rows()
 {}
 
 /// Worked rows of runs.
-#[tactic(auto, using(crate::proofs::TreeRows::run_rows))]
-pub fn run_rows()
-    ensures { RunRows }
+#[tactic(auto, using(crate::proofs::TreeRows::tree_rows))]
+pub fn tree_rows()
+    ensures { TreeRows }
 {}
 
 /// Worked rows of reports.
@@ -88,19 +88,19 @@ pub fn report_rows()
 {}
 
 /// Worked rows of samples.
-#[tactic(auto, using(crate::proofs::SampleRows::sample_rows))]
-pub fn sample_rows()
-    ensures { SampleRows }
+#[tactic(auto, using(crate::proofs::SampledRunRows::sampled_run_rows))]
+pub fn sampled_run_rows()
+    ensures { SampledRunRows }
 {}
 
 /// Worked rows of chances.
-#[tactic(auto, using(crate::proofs::ChanceRows::chance_rows))]
-pub fn chance_rows()
-    ensures { ChanceRows }
+#[tactic(auto, using(crate::proofs::TableRows::table_rows))]
+pub fn table_rows()
+    ensures { TableRows }
 {}
 
 /// Worked rows of the mistakes in the text of a program.
-#[tactic(auto, using(crate::proofs::CheckRows::check_rows))]
-pub fn check_rows()
-    ensures { CheckRows }
+#[tactic(auto, using(crate::proofs::MistakeRows::mistake_rows))]
+pub fn mistake_rows()
+    ensures { MistakeRows }
 {}

@@ -1,12 +1,12 @@
 -- This file proves the worked rows of samples by computation.
--- Main lemma: `sample_rows`.
+-- Main lemma: `sampled_run_rows`.
 use Rattle.std.specs.Prelude.{refl}
-use Rattle.ptb_language_rows.proofs.OnPrograms.{on_programs}
-use Rattle.ptb_language_rows.specs.SampleRows.{SampleRows}
+use Rattle.ptb_rows.proofs.OnPrograms.{on_programs}
+use Rattle.ptb_rows.specs.SampledRunRows.{SampledRunRows}
 
-pub sample_rows : SampleRows
+pub sampled_run_rows : SampledRunRows
 unfolding on_programs
-sample_rows = record {
+sampled_run_rows = record {
   first_word = refl;
   second_word = refl;
   fifth_word = refl;

@@ -1,8 +1,8 @@
 -- This file proves the worked rows of expressions by computation.
 -- Main lemma: `value_rows`.
 use Rattle.std.specs.Prelude.{refl}
-use Rattle.ptb_language_rows.proofs.OnPrograms.{on_programs}
-use Rattle.ptb_language_rows.specs.ExpressionRows.{ValueRows}
+use Rattle.ptb_rows.proofs.OnPrograms.{on_programs}
+use Rattle.ptb_rows.specs.ExpressionRows.{ValueRows}
 
 pub value_rows : ValueRows
 unfolding on_programs

@@ -1,14 +1,14 @@
 -- This file has worked rows of samples: of the runs that a seed draws, one after the other. The words of the
 -- generators are those of the reference implementation of PCG32.
---     SampleRows     the rows
+--     SampledRunRows     the rows
 use Rattle.std.specs.Prelude.{◌≡◌, ℕ, [], ◌∷◌, codes}
 use Rattle.rand_pcg.specs.Pcg.{pcg32}
 use Rattle.ptb_answers.specs.Seeds.{generator_after, generator_of}
 use Rattle.ptb_answers.specs.Drawn.{sampled_runs}
-use Rattle.ptb_language_rows.specs.ExpressionRows.{worth}
-use Rattle.ptb_language_rows.specs.TreeRows.{one, two}
+use Rattle.ptb_rows.specs.ExpressionRows.{worth}
+use Rattle.ptb_rows.specs.TreeRows.{one, two}
 
-pub record SampleRows : Type 0 where
+pub record SampledRunRows : Type 0 where
   -- the first words of a seed
   pub first_word : (pcg32 (generator_of 7)).0 ≡ 2215483850
   pub second_word : (pcg32 (generator_after (generator_of 7) 1)).0 ≡ 315054046

@@ -1,9 +1,9 @@
 -- This file has worked rows of runs and of their reports.
---     RunRows        rows of the runs of a program
+--     TreeRows        rows of the runs of a program
 --     ReportRows     rows of their reports
 use Rattle.std.specs.Prelude.{◌≡◌, ℕ, [], ◌∷◌, ◌++◌, codes, false, true, Some, None, pos}
 use Rattle.ptb_answers.specs.Outcome.{Answers, is_whole, bounds}
-use Rattle.ptb_language_rows.specs.ExpressionRows.{worth}
+use Rattle.ptb_rows.specs.ExpressionRows.{worth}
 use Rattle.ptb_explore.specs.Beginnings.{beginnings}
 use Rattle.ptb_explore.specs.RunTree.{At, End, is_before, tree, runs_left}
 use Rattle.ptb_answers.specs.AnswerText.{answers_of, marked, spelling, unmarked}
@@ -17,7 +17,7 @@ one j = pos j ∷ []
 abbrev pub two : ℕ → ℕ → Answers
 two j k = pos j ∷ pos k ∷ []
 
-pub record RunRows : Type 0 where
+pub record TreeRows : Type 0 where
   -- the runs of an expression that is worked out
   pub no_question : tree (worth (codes "7")) 0 ≡ [] ∷ []
   pub two_rolls : tree (worth (codes "RND(2)*RND(2)")) 2 ≡ two 1 1 ∷ two 1 2 ∷ two 2 1 ∷ two 2 2 ∷ []

@@ -1,12 +1,12 @@
 -- This file proves the worked rows of runs and of their reports by computation.
--- Main lemma: `run_rows`.
+-- Main lemma: `tree_rows`.
 use Rattle.std.specs.Prelude.{refl}
-use Rattle.ptb_language_rows.proofs.OnPrograms.{on_programs}
-use Rattle.ptb_language_rows.specs.TreeRows.{RunRows, ReportRows}
+use Rattle.ptb_rows.proofs.OnPrograms.{on_programs}
+use Rattle.ptb_rows.specs.TreeRows.{TreeRows, ReportRows}
 
-pub run_rows : RunRows
+pub tree_rows : TreeRows
 unfolding on_programs
-run_rows = record {
+tree_rows = record {
   no_question = refl;
   two_rolls = refl;
   nested_roll = refl;

@@ -1,34 +1,12 @@
 // This file tests tables of chances, also with writers that fail and where memory is refused.
 
+use crate::shared::{OUT_OF_MEMORY, expect_same, loaded};
 use ptb_chances::{Unwatched, chances_text, write_chances};
-use ptb_machine::{Line, ReadFault, Rules, ScreenFault, read_lines};
-use ptb_text::{Device, LoadFault, Program, load};
+use ptb_machine::{Rules, ScreenFault};
+use ptb_text::Device;
 use std::alloc::Global;
-use std::fmt::Debug;
 use std::process::Abort;
 use std::test::Fail;
-
-// Two values that must be the same; `what` says of what they are.
-fn expect_same<T: Copy + PartialEq + Debug>(rt: &impl Abort, what: &str, found: T, wanted: T) {
-    assert_eq!(rt; found, wanted, "{what}");
-}
-
-const OUT_OF_MEMORY: &str = "out of memory";
-
-// The program of a text, and the lines of an input; or why there are none.
-fn loaded(alloc: Global, text: &str, input: &str) -> Result<(Program, Vec<Line>), &'static str> {
-    let (mut text, mut input) = (text.as_bytes(), input.as_bytes());
-    let program = match load(alloc, 4096, &mut Device::new(&mut text)) {
-        Ok(program) => program,
-        Err((_, LoadFault::Memory)) => return Err(OUT_OF_MEMORY),
-        Err(_) => return Err("no program"),
-    };
-    match read_lines(alloc, &mut Device::new(&mut input)) {
-        Ok(lines) => Ok((program, lines)),
-        Err(ReadFault::Memory) => Err(OUT_OF_MEMORY),
-        Err(_) => Err("no input"),
-    }
-}
 
 // A program, its input, the rules of its runs, and the table that is due. The chances are from
 // Python's fractions.

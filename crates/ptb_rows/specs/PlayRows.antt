@@ -1,6 +1,6 @@
 -- This file has worked rows of plain runs.
 --     AnswerRows, PrintRows, InputRows, LoopRows     rows of one kind of command each
---     FaultRows, ArrayRows, LongRows, StepRows       rows of faults, of the array, of long runs and of numbers of steps
+--     RunFaultRows, ArrayRows, LongRows, StepRows       rows of faults, of the array, of long runs and of numbers of steps
 use Rattle.std.specs.Prelude.{◌≡◌, ℕ, List, [], ◌∷◌, ◌++◌, Option, Some, None, Ok, Err, pos, codes, replicate}
 use Rattle.ptb_text.specs.Lines.{input_lines}
 use Rattle.ptb_text.specs.Statements.{program}
@@ -169,7 +169,7 @@ pub record LoopRows : Type 0 where
   pub limit_before_fault : shows 4096 (codes "10 P.1;;\n") ([]) 1 ([]) ≡ Some (codes "     1\n", Limit)
 
 -- faults and their marks
-pub record FaultRows : Type 0 where
+pub record RunFaultRows : Type 0 where
   pub misspelt : shows 4096 (codes "210 PTINT \"THIS\"" ++ (10 ∷ [])) ([]) 10000 ([]) ≡ Some
       (codes "WHAT?" ++ (10 ∷ []) ++ codes "210 P?TINT \"THIS\"" ++ (10 ∷ []), What)
   pub unclosed : shows 4096

@@ -1,19 +1,9 @@
-// This file has what all the tests use: values that must be the same, and numbers as texts.
+// This file has what the tests of numbers use: numbers as texts.
 
+use crate::shared::expect_same;
 use ptb_numbers::Natural;
 use std::alloc::{AllocError, Global};
-use std::fmt::Debug;
 use std::process::Abort;
-
-// Two values that must be the same; `what` says of what they are.
-pub(crate) fn expect_same<T: Copy + PartialEq + Debug>(
-    rt: &impl Abort,
-    what: &str,
-    found: T,
-    wanted: T,
-) {
-    assert_eq!(rt; found, wanted, "{what}");
-}
 
 // The decimals of a number.
 pub(crate) fn decimals(alloc: Global, number: &Natural) -> Result<Vec<u8>, AllocError> {

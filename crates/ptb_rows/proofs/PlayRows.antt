@@ -1,9 +1,9 @@
 -- This file proves the worked rows of plain runs by computation.
--- Main lemmas: `answer_rows`, `loop_rows` and `fault_rows`.
+-- Main lemmas: `answer_rows`, `loop_rows` and `run_fault_rows`.
 use Rattle.std.specs.Prelude.{refl}
-use Rattle.ptb_language_rows.proofs.OnPrograms.{on_programs}
-use Rattle.ptb_language_rows.specs.PlayRows.{AnswerRows, PrintRows, InputRows, LoopRows, FaultRows}
-use Rattle.ptb_language_rows.specs.PlayRows.{ArrayRows, LongRows, StepRows}
+use Rattle.ptb_rows.proofs.OnPrograms.{on_programs}
+use Rattle.ptb_rows.specs.PlayRows.{AnswerRows, PrintRows, InputRows, LoopRows, RunFaultRows}
+use Rattle.ptb_rows.specs.PlayRows.{ArrayRows, LongRows, StepRows}
 
 pub answer_rows : AnswerRows
 unfolding on_programs
@@ -100,9 +100,9 @@ loop_rows = record {
   limit_before_fault = refl;
 }
 
-pub fault_rows : FaultRows
+pub run_fault_rows : RunFaultRows
 unfolding on_programs
-fault_rows = record {
+run_fault_rows = record {
   misspelt = refl;
   unclosed = refl;
   no_such_line = refl;

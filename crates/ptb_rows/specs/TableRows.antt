@@ -1,5 +1,5 @@
 -- This file has worked rows of the chances of results.
---     ChanceRows     the rows
+--     TableRows     the rows
 use Rattle.std.specs.Prelude.{◌≡◌, ℕ, List, [], ◌∷◌, ◌++◌, Option, Some, None, Ok, Err, pos, codes}
 use Rattle.ptb_text.specs.Lines.{input_lines}
 use Rattle.ptb_text.specs.Statements.{program}
@@ -33,7 +33,7 @@ third = record { numerator = 1; denominator = 3 }
 abbrev pub sixth : Ratio
 sixth = record { numerator = 1; denominator = 6 }
 
-pub record ChanceRows : Type 0 where
+pub record TableRows : Type 0 where
   -- fractions
   pub one_half : chance (pos 2 ∷ []) ≡ half
   pub half_and_third : chance (pos 2 ∷ pos 3 ∷ []) ≡ sixth

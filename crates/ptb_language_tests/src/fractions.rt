@@ -1,6 +1,7 @@
 // This file tests fractions: sums of products of 1/bound, in lowest terms.
 
-use crate::shared::{decimals, expect_number, expect_same};
+use crate::decimals::{decimals, expect_number};
+use crate::shared::expect_same;
 use ptb_numbers::Fraction;
 use std::alloc::{AllocError, Global};
 use std::process::Abort;

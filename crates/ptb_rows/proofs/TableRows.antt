@@ -1,12 +1,12 @@
 -- This file proves the worked rows of chances by computation.
--- Main lemma: `chance_rows`.
+-- Main lemma: `table_rows`.
 use Rattle.std.specs.Prelude.{refl}
-use Rattle.ptb_language_rows.proofs.OnPrograms.{on_programs}
-use Rattle.ptb_language_rows.specs.ChanceRows.{ChanceRows}
+use Rattle.ptb_rows.proofs.OnPrograms.{on_programs}
+use Rattle.ptb_rows.specs.TableRows.{TableRows}
 
-pub chance_rows : ChanceRows
+pub table_rows : TableRows
 unfolding on_programs
-chance_rows = record {
+table_rows = record {
   one_half = refl;
   half_and_third = refl;
   no_question = refl;
