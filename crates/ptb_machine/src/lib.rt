@@ -1,20 +1,21 @@
 //! The machine of Tiny BASIC. A command is read once into code (`translation.rt`, `operation.rt`,
-//! `command_code.rt`). Its code is then executed (`execution.rt`): it changes the store, the loops and
-//! calls that are open, and the place, and it shows, takes and asks. A step is one command, a run is all
-//! steps, and a program that is played once is a run over a reader and a writer.
+//! `command_code.rt`). Its code is then executed (`execution.rt`): it changes the store, the loops
+//! and calls that are open, and the place, and it shows, takes and asks. A step is one command, a
+//! run is all steps, and a program that is played once is a run over a reader and a writer.
 //!
-//! It stands on `ptb_devices`, `ptb_expr`, `ptb_answers`, `ptb_text`, `arrayvec`, `itoa`, `thiserror`
-//! and `rand_pcg`. The crate above may rely on `Machine::step` (one turn of `specs/Play`: the state
-//! after it, what it shows, the lines and answers it takes), on `Player::step` (the same by the code of
-//! the program, without its text), on `Player::advance` (some turns that touch no device), on `run` (all
-//! turns), on `run_to_end` (the same, and the line at which a limit stopped it), on `run_plain` and
-//! `run_seeded` (a run with a list of answers, or with those of a seed: its bytes and its ending, what is
-//! read of its input, and which fault it was), on `run_plain_to_end` and `run_seeded_to_end` (the same,
-//! and the line at which a limit stopped the run), on `seeded_laws` (what a seed draws), on
-//! `SavedMachine` (where a machine is, in little memory, to which it can be restored), on `run_laws`
-//! (answers are taken one by one, a limited number of them), on `translate` (the code is that of the
-//! parts that `specs/Commands` reads), on `command_laws` (how the parts of a command and the commands of
-//! a statement follow one another), and on the devices of the crate below, which it passes on.
+//! It stands on `ptb_devices`, `ptb_expr`, `ptb_answers`, `ptb_text`, `arrayvec`, `itoa`,
+//! `thiserror` and `rand_pcg`. The crate above may rely on `Machine::step` (one turn of
+//! `specs/Play`: the state after it, what it shows, the lines and answers it takes), on
+//! `Player::step` (the same by the code of the program, without its text), on `Player::advance`
+//! (some turns that touch no device), on `run` (all turns), on `run_to_end` (the same, and the line
+//! at which a limit stopped it), on `run_plain` and `run_seeded` (a run with a list of answers, or
+//! with those of a seed: its bytes and its ending, what is read of its input, and which fault it
+//! was), on `run_plain_to_end` and `run_seeded_to_end` (the same, and the line at which a limit
+//! stopped the run), on `seeded_laws` (what a seed draws), on `SavedMachine` (where a machine is,
+//! in little memory, to which it can be restored), on `run_laws` (answers are taken one by one, a
+//! limited number of them), on `translate` (the code is that of the parts that `specs/Commands`
+//! reads), on `command_laws` (how the parts of a command and the commands of a statement follow one
+//! another), and on the devices of the crate below, which it passes on.
 #![tactic(auto)]
 
 mod command_code;
