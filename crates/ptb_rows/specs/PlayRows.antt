@@ -1,6 +1,6 @@
 -- This file has worked rows of plain runs.
 --     AnswerRows, PrintRows, InputRows, LoopRows     rows of one kind of command each
---     RunFaultRows, ArrayRows, LongRows, StepRows       rows of faults, of the array, of long runs and of numbers of steps
+--     RunFaultRows, ArrayRows, LongRows, StepRows    rows of faults, of the array, of long runs, of numbers of steps
 use Rattle.std.specs.Prelude.{◌≡◌, ℕ, List, [], ◌∷◌, ◌++◌, Option, Some, None, Ok, Err, pos, codes, replicate}
 use Rattle.ptb_text.specs.Lines.{input_lines}
 use Rattle.ptb_text.specs.Statements.{program}
