@@ -20,7 +20,7 @@
 
 mod command_code;
 mod command_io;
-mod command_laws;
+mod command_order;
 mod complete_run;
 mod ending;
 mod execution;
@@ -54,7 +54,7 @@ mod translation;
 
 pub use command_code::CommandCode;
 pub use command_io::CommandIo;
-pub use command_laws::command_laws;
+pub use command_order::command_laws;
 pub use complete_run::{run, run_to_end};
 pub use ending::Ending;
 pub use execution::print::Output;

@@ -4,7 +4,7 @@ ghost use Rattle.std.specs.Prelude.{◌≡◌, ◌≤◌, length, Option, None, 
 ghost use Rattle.ptb_machine.specs.Representation.{PlacesAre, IsPlaceOf, NextIs};
 ghost use Rattle.ptb_machine.specs.State.{Place, next_command};
 
-use crate::command_laws::command_laws;
+use crate::command_order::command_laws;
 use crate::location::Location;
 use crate::statements::{line_at, place_after};
 use ptb_text::{Cursor, Program};

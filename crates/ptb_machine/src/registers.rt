@@ -6,7 +6,7 @@ ghost use Rattle.ptb_machine.specs.Configuration.{configuration};
 ghost use Rattle.ptb_machine.specs.Representation.{Represents};
 ghost use Rattle.ptb_machine.specs.State.{first_state};
 
-use crate::command_laws::command_laws;
+use crate::command_order::command_laws;
 use crate::location::Location;
 use crate::stack::Stack;
 use crate::statements::first_place;

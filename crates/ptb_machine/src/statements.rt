@@ -7,7 +7,7 @@ ghost use Rattle.ptb_machine.specs.State.{Place, first_place, place_after, text_
 ghost use Rattle.ptb_machine.specs.Act.{statement};
 ghost use Rattle.ptb_machine.specs.Representation.{IsLineAt, PlacesAre};
 
-use crate::command_laws::command_laws;
+use crate::command_order::command_laws;
 use crate::location::Location;
 use ptb_text::{Program, statement_laws};
 

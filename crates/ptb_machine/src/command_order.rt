@@ -1,4 +1,4 @@
-// This file states the laws of commands.
+// This file states how the parts of a command and the commands of a statement follow one another.
 
 ghost use Rattle.ptb_machine.specs.CommandLaws.{CommandLaws};
 
