@@ -1,16 +1,17 @@
 // This file writes the table of the chances of all results of a program's runs.
 
-ghost use Rattle.std.specs.Prelude.{◌≡◌, IfOk, OnOk, IsErrOf};
+ghost use Rattle.std.specs.Prelude.{◌≡◌, IfErr, IfOk, OnOk, IsErrOf};
 ghost use Rattle.std.specs.Io.KnownBytes.{Appends};
 ghost use Rattle.ptb_text.specs.Device.{HasFailed, TakesSome};
+ghost use Rattle.ptb_devices.specs.Screens.{IsScreenFault};
 ghost use Rattle.ptb_machine.specs.Play.{play};
 ghost use Rattle.ptb_machine.specs.Questions.{most_answers};
 ghost use Rattle.ptb_explore.specs.Chances.{chances};
 
 use crate::count::count_runs;
 use crate::watch::Watch;
-use ptb_machine::{Line, Rules, ScreenFault, run_laws};
-use ptb_text::{Program, Write};
+use ptb_machine::{Line, Rules, run_laws};
+use ptb_text::{DeviceFault, Program, Write};
 use std::alloc::{AllocError, Global};
 
 /// The text of the table of a program's runs on these input lines, by these rules: each result that
@@ -43,33 +44,34 @@ pub fn chances_text<W: Watch>(
 ///
 /// # Errors
 ///
-/// [`ScreenFault::Memory`] where a growth was refused memory: nothing was written.
-/// [`ScreenFault::Write`] where the writer failed: a prefix of the table was written.
+/// [`DeviceFault::Memory`] where a growth was refused memory: nothing was written.
+/// [`DeviceFault::Write`] where the writer failed: a prefix of the table was written.
 pub fn write_chances<W: Write + Watch>(
     alloc: Global,
     program: &Program,
     lines: &[Line],
     rules: Rules,
     writer: &mut W,
-) -> Result<(), ScreenFault>
+) -> Result<(), DeviceFault>
     ensures written { OnOk result (Appends (W.contents writer.old) (W.contents writer.new)
         (chances (play program.now lines.now rules)
         (most_answers program.now lines.now rules.limit))) }
-    ensures memory { IsErrOf result ScreenFault.Memory → writer.new ≡ writer.old }
-    ensures prefix { IsErrOf result ScreenFault.Write
+    ensures kind { IfErr result IsScreenFault }
+    ensures memory { IsErrOf result DeviceFault.Memory → writer.new ≡ writer.old }
+    ensures prefix { IsErrOf result DeviceFault.Write
         → TakesSome (W.contents writer.old) (W.contents writer.new)
         (chances (play program.now lines.now rules)
         (most_answers program.now lines.now rules.limit)) }
-    ensures failed { IsErrOf result ScreenFault.Write
+    ensures failed { IsErrOf result DeviceFault.Write
         → HasFailed (W.failures writer.old) (W.failures writer.new) }
-    ensures unfailed { ¬ IsErrOf result ScreenFault.Write
+    ensures unfailed { ¬ IsErrOf result DeviceFault.Write
         → W.failures writer.new ≡ W.failures writer.old }
 {
     let Ok(text) = chances_text(alloc, program, lines, rules, &*writer) else {
-        return Err(ScreenFault::Memory);
+        return Err(DeviceFault::Memory);
     };
     match writer.write_all(text.as_slice()) {
         Ok(()) => Ok(()),
-        Err(_) => Err(ScreenFault::Write),
+        Err(_) => Err(DeviceFault::Write),
     }
 }

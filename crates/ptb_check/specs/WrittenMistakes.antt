@@ -6,7 +6,7 @@
 use Rattle.std.specs.Prelude.{◌≡◌, ℕ, Bool, true, false, List, [], ◌∷◌, flat_map, Option, Result, IfOk, OnErr, OnOk}
 use Rattle.std.specs.Io.KnownBytes.{Appends}
 use Rattle.ptb_text.specs.Device.{TakesSome}
-use Rattle.ptb_text.specs.declared.device.DeviceFault.{DeviceFault}
+use Rattle.ptb_text.specs.declared.device_fault.DeviceFault.{DeviceFault}
 use Rattle.ptb_check.specs.Mistakes.{Mistake, mistake_text}
 
 abbrev pub texts : List Mistake → List ℕ

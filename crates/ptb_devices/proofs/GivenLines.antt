@@ -6,9 +6,10 @@ use Rattle.std.specs.Borrow.{Bor}
 use Rattle.std.specs.Prelude.{IsSome}
 use Rattle.ptb_devices.specs.declared.line_buffer.InputEnd.{InputEnd}
 use Rattle.ptb_devices.specs.declared.line_buffer.InputEnd.TheVariants.{Open, Ended, Failed, Exceeded}
-use Rattle.ptb_devices.specs.declared.fault.ReadFault.{ReadFault}
+use Rattle.ptb_text.specs.declared.device_fault.DeviceFault.{DeviceFault}
+use Rattle.ptb_text.specs.declared.device_fault.DeviceFault.TheVariants.{Read, TooLong}
 use Rattle.ptb_devices.specs.CutLines.{kept_bytes}
-use Rattle.ptb_devices.specs.Sources.{Loses, NoneLeft, ready_lines}
+use Rattle.ptb_devices.specs.Sources.{IsSourceFault, Loses, NoneLeft, ready_lines}
 use Rattle.ptb_devices.specs.Inputs.{InputState, InputNow, open_piece, most_lines, known_lines}
 use Rattle.ptb_devices.specs.Inputs.{CutsLine, CutsAll, TakesLine, TakesWhole, asked_at, asked}
 use Rattle.ptb_devices.specs.Inputs.{ReadsOn, fault_at}
@@ -21,8 +22,15 @@ none_left_before None b l n = tt
 none_left_before (Some xs) None l n = absurd l
 none_left_before (Some xs) (Some ys) l n = l ∙ n
 
+-- what a source refuses a line for is a fault of a source
+pub refused_by_source : (end : InputEnd) (fault : DeviceFault) → fault_at end ≡ Some fault → IsSourceFault fault
+refused_by_source Open fault e = absurd cc
+refused_by_source Ended fault e = absurd cc
+refused_by_source Failed fault e = let same : Read ≡ fault = cc in subst IsSourceFault same tt
+refused_by_source Exceeded fault e = let same : TooLong ≡ fault = cc in subst IsSourceFault same tt
+
 -- a fault is answered where a line was asked for and could not be given
-pub fault_reads : (m n : InputNow) (fault : ReadFault) → fault_at n.state.end ≡ Some fault → ReadsOn 1 m [] n
+pub fault_reads : (m n : InputNow) (fault : DeviceFault) → fault_at n.state.end ≡ Some fault → ReadsOn 1 m [] n
     → ReadsOn (asked n.state) m [] n
 fault_reads m n fault e reads =
     subst (λ (k : ℕ). ReadsOn k m [] n) (sym (by_end n.state.end n.state.is_given e)) reads where

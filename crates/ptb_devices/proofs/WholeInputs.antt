@@ -13,8 +13,8 @@ use Rattle.ptb_text.specs.Lines.{input_lines}
 use Rattle.ptb_text.specs.Streams.{Reads, ReadsUpTo}
 use Rattle.ptb_text.proofs.ByteCounts.{IsCountedUpTo, IsCountedUpTo_more}
 use Rattle.ptb_devices.specs.CutLines.{last_line}
-use Rattle.ptb_devices.specs.declared.fault.ReadFault.{ReadFault}
-use Rattle.ptb_devices.specs.declared.fault.ReadFault.TheVariants.{Read, TooLong, Memory}
+use Rattle.ptb_text.specs.declared.device_fault.DeviceFault.{DeviceFault}
+use Rattle.ptb_text.specs.declared.device_fault.DeviceFault.TheVariants.{Read, TooLong, Memory}
 use Rattle.ptb_devices.proofs.ReadLines.{IsReadUpTo, IsReadUpTo_bounded, IsReadUpTo_end}
 use Rattle.ptb_devices.proofs.ReadLines.{IsReadUpTo_kept, IsReadUpTo_long}
 
@@ -24,11 +24,17 @@ failed_once f h within counted = elim (cases_lt f failure_limit) [
   | inr most ↦ inr (omega (arith, within))
 ]
 
+-- a fault that is passed on is the same
+pub same_fault : {T : Type 0} (r : Result T DeviceFault) (e fault : DeviceFault) → IsErrAnd r (λ y. y ≡ e) → e ≡ fault
+    → IsErrAnd r (λ y. y ≡ fault)
+same_fault (Ok x) e fault is same = absurd is
+same_fault (Err y) e fault is same = is ∙ same
+
 -- where a growth was refused memory, no read failed
-pub wants_memory : {T : Type 0} (r : Result T ReadFault) → IsErrAnd r (λ y. y ≡ Memory) → ¬ IsErrOf r Read
+pub wants_memory : {T : Type 0} (r : Result T DeviceFault) → IsErrAnd r (λ y. y ≡ Memory) → ¬ IsErrOf r Read
 wants_memory {T} r is =
     let e = err_from_is_err_and r is in
-    subst (λ (r : Result T ReadFault). ¬ IsErrOf r Read) (sym (e.1 ∙ ap Err e.2)) (λ h. absurd cc)
+    subst (λ (r : Result T DeviceFault). ¬ IsErrOf r Read) (sym (e.1 ∙ ap Err e.2)) (λ h. absurd cc)
 
 -- nor was it where there were too many bytes
 pub too_many : {T : Type 0} → ¬ IsErrOf {T = T} (Err TooLong) Read
@@ -36,7 +42,7 @@ too_many {T} h = cc h
 
 -- the input that was read, or why it wasn't
 module _ {R T : Type 0} (items : T → List (List ℕ)) (limit : ℕ) (input : Reads R) where
-  pub record IsTold (result : Result T ReadFault) : Type 0 where
+  pub record IsTold (result : Result T DeviceFault) : Type 0 where
     pub lines : IfOk result (λ ls. IfSome input.bytes (λ b. items ls ≡ input_lines b))
     pub reads : ReadsUpTo limit input (IsOk result) (IsErrOf result TooLong) (IsErrOf result Read)
 
@@ -88,7 +94,7 @@ module _ {R T : Type 0} (items : T → List (List ℕ)) (limit : ℕ) (input : R
         };
       }
 
-      pub told_failed : (r : Result T ReadFault) → IsErrAnd r (λ y. y ≡ Read) → IsTold r
+      pub told_failed : (r : Result T DeviceFault) → IsErrAnd r (λ y. y ≡ Read) → IsTold r
       told_failed r is =
           let e = err_from_is_err_and r is in
           subst IsTold (sym (e.1 ∙ ap Err e.2)) told_failure
@@ -118,7 +124,7 @@ module _ {R T : Type 0} (items : T → List (List ℕ)) (limit : ℕ) (input : R
       }
 
       -- a growth was refused memory
-      pub told_wanting : (r : Result T ReadFault) → IsErrAnd r (λ y. y ≡ Memory) → IsTold r
+      pub told_wanting : (r : Result T DeviceFault) → IsErrAnd r (λ y. y ≡ Memory) → IsTold r
       told_wanting r is =
           let e = err_from_is_err_and r is in
           subst IsTold (sym (e.1 ∙ ap Err e.2)) told_want

@@ -25,8 +25,8 @@ use Rattle.std.specs.Io.KnownBytes.{Consumes}
 use Rattle.ptb_text.specs.Device.{GivesAtMost, GivesExactly, HasFailed}
 use Rattle.ptb_devices.specs.declared.line_buffer.InputEnd.{InputEnd}
 use Rattle.ptb_devices.specs.declared.line_buffer.InputEnd.TheVariants.{Open, Ended, Failed, Exceeded}
-use Rattle.ptb_devices.specs.declared.fault.ReadFault.{ReadFault}
-use Rattle.ptb_devices.specs.declared.fault.ReadFault.TheVariants.{Read, TooLong}
+use Rattle.ptb_text.specs.declared.device_fault.DeviceFault.{DeviceFault}
+use Rattle.ptb_text.specs.declared.device_fault.DeviceFault.TheVariants.{Read, TooLong}
 use Rattle.ptb_devices.specs.declared.whole_input.TheConstants.{BUFFER_SIZE, INPUT_LIMIT}
 use Rattle.ptb_devices.specs.CutLines.{kept_bytes, whole_lines, last_piece, last_line, Cuts, IsLine}
 use Rattle.ptb_devices.specs.Sources.{Loses}
@@ -193,12 +193,12 @@ pub record ReadsOn (wanted : ℕ) (m : InputNow) (given : List (List ℕ)) (n : 
 
 -- ---- faults
 
-abbrev pub fault_at : InputEnd → Option ReadFault
+abbrev pub fault_at : InputEnd → Option DeviceFault
 fault_at Open = None
 fault_at Ended = None
 fault_at Failed = Some Read
 fault_at Exceeded = Some TooLong
 
 -- after a fault the input stands so that it answers that fault again; it never takes memory
-abbrev pub Refuses : InputEnd → ReadFault → Type 0
+abbrev pub Refuses : InputEnd → DeviceFault → Type 0
 Refuses end fault = fault_at end ≡ Some fault

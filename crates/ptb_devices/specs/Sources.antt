@@ -3,11 +3,13 @@
 --     NoneLeft lines               no known line is left
 --     given_lines result           the line that a call gave, if it gave one
 --     ready_lines line             the line that was at hand, if one was
+--     IsSourceFault fault          a source can have this fault
 --     LineList                     a list of lines, and how many of them were taken
 --     Gives old given new          between two states of such a list, these lines were taken
 use Rattle.std.specs.Prelude.{◌≡◌, ℕ, ◌+◌, List, [], ◌∷◌, ◌++◌, length, drop, ⊤, Option, Some, None, Result, Ok, Err}
 use Rattle.std.specs.Borrow.{Bor}
-use Rattle.ptb_devices.specs.declared.fault.ReadFault.{ReadFault}
+use Rattle.ptb_text.specs.declared.device_fault.DeviceFault.{DeviceFault}
+use Rattle.ptb_text.specs.declared.device_fault.DeviceFault.TheVariants as faults
 pub use Rattle.ptb_text.specs.Streams.{ConsumesAtMost}
 
 -- known lines begin with these, and lose them
@@ -29,7 +31,12 @@ given_lines (Err fault) = []
 
 -- the line that was at hand, if one was
 abbrev pub ready_lines : Option (Bor (List ℕ)) → List (List ℕ)
-ready_lines line = given_lines {E = ReadFault} (Ok line)
+ready_lines line = given_lines {E = DeviceFault} (Ok line)
+
+-- the input could not be read, or is too long, or memory was refused
+abbrev pub IsSourceFault : DeviceFault → Type 0
+IsSourceFault faults.Write = ⊥
+IsSourceFault _ = Unit {0}
 
 -- a list of lines, of which the first ones were taken
 pub record LineList : Type 0 where

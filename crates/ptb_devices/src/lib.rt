@@ -1,6 +1,6 @@
 //! What a run shows its bytes on, and where its input lines come from.
 //!
-//! It depends on `ptb_text`, `arrayvec` and `thiserror`. The crate above may rely on the contracts
+//! It depends on `ptb_text` and `arrayvec`. The crate above may rely on the contracts
 //! of `Screen` (bytes are shown in order, all of them or a fault) and `LineSource` (lines are given
 //! in order, each once; by `take_ready` only those that need not be waited for), which the screens,
 //! `Lines` and `ReaderLines` here keep, and on `read_lines` (the lines of an input, cleaned and cut).
@@ -8,14 +8,12 @@
 #![tactic(auto)]
 
 mod cutter;
-mod fault;
 mod line_buffer;
 mod lines;
 mod reader_lines;
 mod screen;
 mod whole_input;
 
-pub use fault::{ReadFault, ScreenFault};
 pub use lines::{Line, LineSource, Lines};
 pub use reader_lines::ReaderLines;
 pub use screen::{Screen, TextScreen, WriterScreen};

@@ -12,7 +12,6 @@ ghost use Rattle.ptb_devices.specs.Inputs.{fresh_input, fault_at, open_piece, in
 ghost use Rattle.ptb_devices.specs.Inputs.{CutsLine, CutsAll, TakesWhole, ReadsOn, Refuses};
 
 use crate::cutter::{LINE_LIMIT, LineCutter, stays};
-use crate::fault::ReadFault;
 use crate::whole_input::{BUFFER_SIZE, INPUT_LIMIT};
 use ptb_text::{DeviceFault, Read};
 use std::marker::Model;
@@ -156,9 +155,9 @@ impl LineBuffer {
     ///
     /// # Errors
     ///
-    /// [`ReadFault::Read`] where the reader failed, and [`ReadFault::TooLong`] where it gave more
+    /// [`DeviceFault::Read`] where the reader failed, and [`DeviceFault::TooLong`] where it gave more
     /// than an input may have, now or before. Nothing is read after the end or a fault.
-    pub(crate) fn fill<R: Read>(&mut self, reader: &mut R) -> Result<bool, ReadFault>
+    pub(crate) fn fill<R: Read>(&mut self, reader: &mut R) -> Result<bool, DeviceFault>
         requires { self.old.waiting ≡ [] }
         ensures on { ReadsOn 1
             (input_now R.remaining R.given R.failures self.old reader.old) []
@@ -174,14 +173,14 @@ impl LineBuffer {
         match self.end {
             InputEnd::Open => {}
             InputEnd::Ended => return Ok(false),
-            InputEnd::Failed => return Err(ReadFault::Read),
-            InputEnd::Exceeded => return Err(ReadFault::TooLong),
+            InputEnd::Failed => return Err(DeviceFault::Read),
+            InputEnd::Exceeded => return Err(DeviceFault::TooLong),
         }
         let room = (self.left - 1).clamp(1, BUFFER_SIZE);
         match reader.read(&mut self.bytes[..room]) {
-            Err(DeviceFault) => {
+            Err(_) => {
                 self.end = InputEnd::Failed;
-                Err(ReadFault::Read)
+                Err(DeviceFault::Read)
             }
             Ok(0) => {
                 self.end = InputEnd::Ended;
@@ -190,7 +189,7 @@ impl LineBuffer {
             Ok(_) if self.left == 1 => {
                 self.left = 0;
                 self.end = InputEnd::Exceeded;
-                Err(ReadFault::TooLong)
+                Err(DeviceFault::TooLong)
             }
             Ok(count) => {
                 self.from = 0;
@@ -202,13 +201,13 @@ impl LineBuffer {
     }
 
     /// How its reader has refused a line, if it has.
-    pub(crate) fn fault(&self) -> Option<ReadFault>
+    pub(crate) fn fault(&self) -> Option<DeviceFault>
         ensures { result ≡ fault_at self.now.end }
     {
         match self.end {
             InputEnd::Open | InputEnd::Ended => None,
-            InputEnd::Failed => Some(ReadFault::Read),
-            InputEnd::Exceeded => Some(ReadFault::TooLong),
+            InputEnd::Failed => Some(DeviceFault::Read),
+            InputEnd::Exceeded => Some(DeviceFault::TooLong),
         }
     }
 }

@@ -8,11 +8,12 @@ ghost use Rattle.std.specs.Borrow.{sem};
 ghost use Rattle.std.specs.Io.BufRead.{Rests};
 ghost use Rattle.ptb_text.specs.Lines.{clean_line, line_limit};
 ghost use Rattle.ptb_devices.specs.CutLines.{IsClean};
-ghost use Rattle.ptb_devices.specs.declared.fault.ReadFault.{ReadFault};
+ghost use Rattle.ptb_text.specs.declared.device_fault.DeviceFault.{DeviceFault};
 ghost use Rattle.ptb_devices.specs.Sources.{Loses, NoneLeft, given_lines, ready_lines, LineList, Gives};
+ghost use Rattle.ptb_devices.specs.Sources.{IsSourceFault};
 
 use crate::cutter::LineCutter;
-use crate::fault::ReadFault;
+use ptb_text::DeviceFault;
 use std::alloc::{AllocError, Global};
 use std::marker::Model;
 
@@ -31,22 +32,23 @@ pub trait LineSource {
     ghost missed: { Self → ℕ };
 
     /// What holds after a fault.
-    ghost refused: { Self → ReadFault → Type 0 };
+    ghost refused: { Self → DeviceFault → Type 0 };
 
     /// The next line, of at most 255 bytes, or none at the end.
     ///
     /// # Errors
     ///
-    /// [`ReadFault::Read`] where the input could not be read, [`ReadFault::TooLong`] where it has
-    /// too many bytes, [`ReadFault::Memory`] where a growth was refused memory. No line is taken
+    /// [`DeviceFault::Read`] where the input could not be read, [`DeviceFault::TooLong`] where it has
+    /// too many bytes, [`DeviceFault::Memory`] where a growth was refused memory. No line is taken
     /// then.
-    fn next(&mut self) -> Result<Option<&[u8]>, ReadFault>
+    fn next(&mut self) -> Result<Option<&[u8]>, DeviceFault>
         ensures* after { sem 𝓛 (Rests Self.row self.entry (λ new.
             gives self.old (given_lines result) new × IfErr result (refused new)
             × IfOk result (λ line. IfNone line (NoneLeft (lines new)))
             × IfOk result (λ line. IfSome line (λ _. missed new ≤ missed self.old))
             × IfOk result (λ line. IfNone line (most new ≡ 0)))) }
         ensures end { IfOk result (λ line. IfNone line (NoneLeft (lines self.old))) }
+        ensures kind { IfErr result IsSourceFault }
         ensures short { IfOk result (λ line. IfSome line (λ bytes.
             length bytes.now ≤ line_limit)) };
 
@@ -189,7 +191,7 @@ impl<'a> LineSource for Lines<'a> {
 
     ghost ends = { Prim.search (rules, common_steps) };
 
-    fn next(&mut self) -> Result<Option<&[u8]>, ReadFault> {
+    fn next(&mut self) -> Result<Option<&[u8]>, DeviceFault> {
         if self.taken == self.lines.len() {
             return Ok(None);
         }

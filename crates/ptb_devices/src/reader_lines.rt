@@ -6,10 +6,9 @@ ghost use Rattle.ptb_devices.specs.Readers.{line_reader, line_input, input_of, G
 ghost use Rattle.ptb_devices.specs.InputLaws.{none_known};
 ghost use Rattle.ptb_devices.specs.ReaderLaws.{GivesFrom_none, GivesFrom_more};
 
-use crate::fault::ReadFault;
 use crate::line_buffer::LineBuffer;
 use crate::lines::LineSource;
-use ptb_text::Read;
+use ptb_text::{DeviceFault, Read};
 
 /// The lines of an input, cleaned and cut, each read when it is asked for.
 ///
@@ -18,7 +17,7 @@ use ptb_text::Read;
 /// isn't read again.
 ///
 /// Of an input with more than [`crate::INPUT_LIMIT`] bytes, the lines that are whole within so many
-/// are given, and then [`ReadFault::TooLong`] is answered; one byte more was taken. A fault is
+/// are given, and then [`DeviceFault::TooLong`] is answered; one byte more was taken. A fault is
 /// answered to every call after it, too. No call takes memory.
 #[derive(Drop)]
 pub struct ReaderLines<'a, R> {
@@ -38,7 +37,7 @@ impl<'a, R: Read> ReaderLines<'a, R> {
     }
 
     /// The fault that it answers from here on, if it has reached one.
-    pub fn fault(&self) -> Option<ReadFault>
+    pub fn fault(&self) -> Option<DeviceFault>
         ensures { result ≡ fault_at (line_input self.now).end }
     {
         self.buffer.fault()
@@ -66,7 +65,7 @@ impl<'a, R: Read> LineSource for ReaderLines<'a, R> {
 
     ghost ends = { λ s none. none_known (input_of R.remaining R.given R.failures s) none };
 
-    fn next(&mut self) -> Result<Option<&[u8]>, ReadFault> {
+    fn next(&mut self) -> Result<Option<&[u8]>, DeviceFault> {
         self.buffer.forget_given();
         while !self.buffer.cut_line() {
             if !self.buffer.fill(self.reader)? {

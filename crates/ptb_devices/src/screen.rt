@@ -1,14 +1,13 @@
 // This file has the screens, which show the bytes of a run.
 
 ghost use Rattle.std.specs.Prelude.{◌≡◌, ◌↔◌, ℕ, ◌≤◌, Bool, true, false, List, [], length, take};
-ghost use Rattle.std.specs.Prelude.{Option, Some, None, OnOk, OnErr, IsErrOf, IsTrue};
+ghost use Rattle.std.specs.Prelude.{Option, Some, None, OnOk, OnErr, IfErr, IsErrOf, IsTrue};
 ghost use Rattle.std.specs.Borrow.{GName};
 ghost use Rattle.std.specs.Io.KnownBytes.{Appends};
 ghost use Rattle.ptb_text.specs.Device.{HasFailed, TakesSome};
-ghost use Rattle.ptb_devices.specs.Screens.{screen_writer};
+ghost use Rattle.ptb_devices.specs.Screens.{screen_writer, IsScreenFault};
 
-use crate::fault::ScreenFault;
-use ptb_text::Write;
+use ptb_text::{DeviceFault, Write};
 use std::alloc::Global;
 use std::marker::Model;
 
@@ -17,7 +16,7 @@ pub trait Screen {
     /// The bytes shown so far, where they are known.
     ghost shown: { Self → Option (List ℕ) };
 
-    /// How often its writer has failed. Only a call that answers [`ScreenFault::Write`] changes it.
+    /// How often its writer has failed. Only a call that answers [`DeviceFault::Write`] changes it.
     ghost failures: { Self → ℕ };
 
     /// The name of the borrow of its writer, if it has one. No call changes it.
@@ -30,16 +29,17 @@ pub trait Screen {
     ///
     /// # Errors
     ///
-    /// [`ScreenFault::Write`] where its writer failed, [`ScreenFault::Memory`] where a growth was
+    /// [`DeviceFault::Write`] where its writer failed, [`DeviceFault::Memory`] where a growth was
     /// refused memory. A prefix of the bytes may have been shown then.
-    fn put(&mut self, bytes: &[u8]) -> Result<(), ScreenFault>
+    fn put(&mut self, bytes: &[u8]) -> Result<(), DeviceFault>
         ensures ok { OnOk result (Appends (shown self.old) (shown self.new) bytes.now) }
         ensures fault { OnErr result (TakesSome (shown self.old) (shown self.new) bytes.now) }
-        ensures write { IsErrOf result ScreenFault.Write
+        ensures write { IsErrOf result DeviceFault.Write
             → HasFailed (failures self.old) (failures self.new) }
-        ensures unfailed { ¬ IsErrOf result ScreenFault.Write
+        ensures unfailed { ¬ IsErrOf result DeviceFault.Write
             → failures self.new ≡ failures self.old }
-        ensures memory { IsErrOf result ScreenFault.Memory → IsTrue takes_memory }
+        ensures memory { IsErrOf result DeviceFault.Memory → IsTrue takes_memory }
+        ensures kind { IfErr result IsScreenFault }
         ensures later { failures self.old ≤ failures self.new }
         ensures same_borrow { borrow self.new ≡ borrow self.old };
 }
@@ -69,7 +69,7 @@ impl<'a, W: Write> Screen for WriterScreen<'a, W> {
 
     ghost takes_memory = { false };
 
-    fn put(&mut self, bytes: &[u8]) -> Result<(), ScreenFault> {
+    fn put(&mut self, bytes: &[u8]) -> Result<(), DeviceFault> {
         self.writer.write_all(bytes)?;
         Ok(())
     }
@@ -151,7 +151,7 @@ impl Screen for TextScreen {
 
     ghost takes_memory = { true };
 
-    fn put(&mut self, bytes: &[u8]) -> Result<(), ScreenFault> {
+    fn put(&mut self, bytes: &[u8]) -> Result<(), DeviceFault> {
         self.text.extend_from_slice(bytes)?;
         Ok(())
     }

@@ -1,15 +1,15 @@
 // This file reads all the input lines of a run at once.
 
 ghost use Rattle.std.specs.Prelude.{◌≡◌, ◌+◌, ℕ, List, ◌++◌, Option, Some, OnOk};
-ghost use Rattle.std.specs.Prelude.{IfOk, IfSome, IsErrOf, IsOk};
+ghost use Rattle.std.specs.Prelude.{IfErr, IfOk, IfSome, IsErrOf, IsOk};
 ghost use Rattle.ptb_text.specs.Lines.{input_lines};
 ghost use Rattle.ptb_text.specs.Streams.{ReadsUpTo, reads_of};
 ghost use Rattle.ptb_devices.specs.CutLines.{last_line, Cuts, AddsLines};
+ghost use Rattle.ptb_devices.specs.Sources.{IsSourceFault};
 
 use crate::cutter::LineCutter;
-use crate::fault::ReadFault;
 use crate::lines::Line;
-use ptb_text::Read;
+use ptb_text::{DeviceFault, Read};
 use std::alloc::{AllocError, Global};
 
 /// How many bytes an input may have.
@@ -24,15 +24,16 @@ pub(crate) const BUFFER_SIZE: usize = 4096;
 ///
 /// # Errors
 ///
-/// [`ReadFault::Read`] where the reader failed, [`ReadFault::TooLong`] where the input has more
-/// than [`INPUT_LIMIT`] bytes, [`ReadFault::Memory`] where a growth was refused memory.
-pub fn read_lines<R: Read>(alloc: Global, reader: &mut R) -> Result<Vec<Line>, ReadFault>
+/// [`DeviceFault::Read`] where the reader failed, [`DeviceFault::TooLong`] where the input has more
+/// than [`INPUT_LIMIT`] bytes, [`DeviceFault::Memory`] where a growth was refused memory.
+pub fn read_lines<R: Read>(alloc: Global, reader: &mut R) -> Result<Vec<Line>, DeviceFault>
     ensures lines { IfOk result
         (λ ls. IfSome (R.remaining reader.old) (λ b. ls.items ≡ input_lines b)) }
     ensures reads { ReadsUpTo INPUT_LIMIT
         (reads_of R.remaining R.given R.failures reader.old reader.new)
-        (IsOk result) (IsErrOf result ReadFault.TooLong) (IsErrOf result ReadFault.Read) }
-    ensures sure { R.reliable reader.old → ¬ IsErrOf result ReadFault.Read }
+        (IsOk result) (IsErrOf result DeviceFault.TooLong) (IsErrOf result DeviceFault.Read) }
+    ensures kind { IfErr result IsSourceFault }
+    ensures sure { R.reliable reader.old → ¬ IsErrOf result DeviceFault.Read }
 {
     let mut buffer = [0; BUFFER_SIZE];
     let mut cutter = LineCutter::new();
@@ -48,7 +49,7 @@ pub fn read_lines<R: Read>(alloc: Global, reader: &mut R) -> Result<Vec<Line>, R
         push_whole(alloc, &mut lines, &mut cutter, &buffer[..count])?;
         left -= count;
     }
-    Err(ReadFault::TooLong)
+    Err(DeviceFault::TooLong)
 }
 
 /// Adds the lines that these bytes end.

@@ -27,7 +27,7 @@ use Rattle.ptb_explore.specs.ReportText.{report_text}
 use Rattle.ptb_explore.specs.PlannedPlays.{Holds, IsRunPrefix}
 use Rattle.ptb_explore.specs.Report.{report, report_of, ending_word}
 use Rattle.ptb_explore.specs.Sampling.{PlaysDrawn, WritesRun}
-use Rattle.ptb_devices.specs.declared.fault.ScreenFault.{ScreenFault}
+use Rattle.ptb_text.specs.declared.device_fault.DeviceFault.{DeviceFault}
 use Rattle.ptb_explore.proofs.RunPrefix.{ends_dry, ends_so, text_state}
 
 -- ---- the last step of a run
@@ -144,7 +144,7 @@ module _ (lines : List (List ℕ)) (rules : Rules) (q p : StoredProgram) (first 
       → s ≡ chooser_at (generator_after first (length (run_in p)))
   left_by s same e = e ∙ ap (λ (x : StoredProgram). chooser_at (generator_after first (length (run_in x)))) same
 
-  module _ (form : Form) (old new : Option (List ℕ)) (r : Result (Unit {0}) ScreenFault) where
+  module _ (form : Form) (old new : Option (List ℕ)) (r : Result (Unit {0}) DeviceFault) where
     pub run_of : q ≡ p → WritesRun (report form (play q lines rules)) (run_in q) old new r
         → WritesRun (report form (play p lines rules)) (run_in p) old new r
     run_of same w = subst (λ (x : StoredProgram). WritesRun (report form (play x lines rules)) (run_in x) old new r)

@@ -1,7 +1,7 @@
 -- This file proves the laws of samples, and how the reports that are written and those that are left make up a sample.
 -- Main lemma: `sample_laws`.
 use Rattle.std.proofs.Common.{◌≡◌, ℕ, zero, suc, ◌+◌, ◌-◌, ◌<◌, List, [], ◌∷◌, ◌++◌, length, take}
-use Rattle.std.proofs.Common.{drop, Option, refl, ap, sym, ◌∙◌, arith, append_assoc, append-nil}
+use Rattle.std.proofs.Common.{drop, Option, Err, refl, ap, sym, ◌∙◌, arith, append_assoc, append-nil}
 use Rattle.std.proofs.Common.{length-append, inl, inr, subst}
 use Rattle.std.proofs.lemmas.List.Concat.{flat_map-append}
 use Rattle.std.proofs.lemmas.List.{take-append-drop}
@@ -11,14 +11,17 @@ use Rattle.std.specs.Prelude.{Contains}
 use Rattle.std.proofs.KnownBytes.{Appends-nil, Appends-trans}
 use Rattle.rand_pcg.specs.Lcg.{Lcg}
 use Rattle.ptb_text.specs.Device.{TakesSome}
+use Rattle.ptb_text.specs.declared.device_fault.DeviceFault.{DeviceFault}
+use Rattle.ptb_text.specs.declared.device_fault.DeviceFault.TheVariants as next
+use Rattle.ptb_devices.specs.Screens.{IsScreenFault}
 use Rattle.ptb_answers.specs.Outcome.{Answers, Outcome, IsReader, bounds}
 use Rattle.ptb_answers.specs.Seeds.{drawn_from, generator_after}
 use Rattle.ptb_answers.specs.Drawn.{IsDrawnFrom, answers_by, sampled_runs}
 use Rattle.ptb_answers.proofs.Drawn.{answers_by-drawn, drawn_alone}
 use Rattle.ptb_answers.proofs.Seeds.{after_sum, drawn_append}
-use Rattle.ptb_explore.specs.Listing.{text}
+use Rattle.ptb_explore.specs.Listing.{fault_after, text}
 use Rattle.ptb_explore.specs.RunTree.{IsRun}
-use Rattle.ptb_explore.specs.Sampling.{SampleLaws, WritesFirst, WritesPart, concatenated}
+use Rattle.ptb_explore.specs.Sampling.{SampleLaws, WritesFirst, WritesPart, WritesRun, WritesSample, concatenated}
 use Rattle.ptb_explore.proofs.Bounds.{length-bounds}
 use Rattle.ptb_explore.proofs.Lists.{IsIn, contained_in}
 
@@ -87,6 +90,14 @@ module _ {A W : Type 0} (play : Answers → Outcome A W) (most : ℕ) (reads : I
 
 -- ---- what is written
 
+-- what ends the writing of a run's report is a fault of a screen
+pub run_kind : (report : Answers → List ℕ) (a : Answers) (old new : Option (List ℕ)) (x : DeviceFault)
+    → WritesRun report a old new (Err x) → IsScreenFault x
+run_kind report a old new next.Write w = tt
+run_kind report a old new next.Memory w = tt
+run_kind report a old new next.Read w = absurd w
+run_kind report a old new next.TooLong w = absurd w
+
 -- some reports are written, and with what the generator draws for those that remain they are the sample
 pub record Sampled {A W : Type 0} (play : Answers → Outcome A W) (most : ℕ) (report : Answers
     → List ℕ) (first : Lcg) (runs : ℕ) (g : Lcg) (remaining : ℕ) (old new : Option (List ℕ)) : Type 0 where
@@ -123,7 +134,7 @@ module _ {A W : Type 0} (play : Answers → Outcome A W) (most : ℕ) (report : 
     some_left zero more none = absurd (omega (arith, more))
     some_left (suc remaining) more none = absurd cc
 
-    pub sampled_some : (remaining n : ℕ) → 0 < remaining → Sampled play most report first runs g remaining old new
+    sampled_some : (remaining n : ℕ) → 0 < remaining → Sampled play most report first runs g remaining old new
         → n ≡ runs - remaining → WritesFirst report (sampled_runs most play first runs) old new n
     sampled_some remaining n more p is = record {
       beginning = p.done;
@@ -134,7 +145,7 @@ module _ {A W : Type 0} (play : Answers → Outcome A W) (most : ℕ) (report : 
       count = let k = p.count in omega (arith, is, k);
     }
 
-    pub sampled_part : (remaining n : ℕ) (new' : Option (List ℕ)) → 0 < remaining
+    sampled_part : (remaining n : ℕ) (new' : Option (List ℕ)) → 0 < remaining
         → Sampled play most report first runs g remaining old new → n ≡ runs - remaining
         → TakesSome new new' (report next_run) → WritesPart report (sampled_runs most play first runs) old new' n
     sampled_part zero n new' more p is part = absurd (omega (arith, more))
@@ -149,6 +160,18 @@ module _ {A W : Type 0} (play : Answers → Outcome A W) (most : ℕ) (report : 
       bytes = Appends-trans old new new' (text report p.done) (take part.0 (report next_run)) p.told part.2;
       count = let k = p.count in omega (arith, is, k);
     }
+
+    -- a fault ends the writing
+    pub sampled_ends : (remaining n : ℕ) (new' : Option (List ℕ)) → 0 < remaining
+        → Sampled play most report first runs g remaining old new → n ≡ runs - remaining → (x : DeviceFault)
+        → WritesRun report next_run new new' (Err x)
+        → WritesSample report (sampled_runs most play first runs) old new' (Err (fault_after x n))
+    sampled_ends remaining n new' more p is next.Memory same =
+        subst (λ (b : Option (List ℕ)). WritesFirst report (sampled_runs most play first runs) old b n) (sym same)
+        (sampled_some remaining n more p is)
+    sampled_ends remaining n new' more p is next.Write part = sampled_part remaining n new' more p is part
+    sampled_ends remaining n new' more p is next.Read w = absurd w
+    sampled_ends remaining n new' more p is next.TooLong w = absurd w
 
     -- one run fewer remains
     pub sampled_next : (remaining fewer : ℕ) (h : Lcg) (new' : Option (List ℕ)) → 0 < remaining → fewer ≡ remaining - 1

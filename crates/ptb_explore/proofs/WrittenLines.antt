@@ -7,12 +7,12 @@ use Rattle.ptb_answers.specs.declared.form.Form.{Form}
 use Rattle.ptb_answers.specs.Outcome.{Answers, Outcome, IsReader, bounds}
 use Rattle.ptb_machine.specs.Laws.{RunLaws}
 use Rattle.ptb_machine.specs.Questions.{most_answers}
-use Rattle.ptb_devices.specs.declared.fault.ScreenFault.{ScreenFault}
-use Rattle.ptb_devices.specs.declared.fault.ScreenFault.TheVariants as next
+use Rattle.ptb_text.specs.declared.device_fault.DeviceFault.{DeviceFault}
+use Rattle.ptb_text.specs.declared.device_fault.DeviceFault.TheVariants as next
 use Rattle.ptb_explore.specs.declared.plan.Position.{Position}
 use Rattle.ptb_explore.specs.declared.plan.Position.TheVariants.{AtStart, AtRun, AtEnd}
 use Rattle.ptb_explore.specs.Beginnings.{Splitting, beginning_line, split_play, stopped}
-use Rattle.ptb_explore.specs.Listing.{NextWrites, WritesInto, WritesList, WritesSome}
+use Rattle.ptb_explore.specs.Listing.{fault_after, NextWrites, WritesList, WritesRuns}
 use Rattle.ptb_explore.specs.Plans.{IsPosition, front_at}
 use Rattle.ptb_explore.specs.RunTree.{At, Front, runs_after}
 use Rattle.ptb_explore.proofs.Progress.{Progress, fewer_left, progress_into, progress_last}
@@ -65,7 +65,7 @@ module _ (form : Form) (first s : Splitting) (same : s ≡ record first { front 
   same_search n h = h ∙ ap (λ (x : Splitting). record x { front = n.front }) same
 
   -- what is searched stays the same
-  of_first : (f : Front) (old new : Option (List ℕ)) (r : Result Bool ScreenFault)
+  of_first : (f : Front) (old new : Option (List ℕ)) (r : Result Bool DeviceFault)
       → NextWrites (game_of s) [] (beginning_line form (split_play s)) s.front f old new r
       → NextWrites (game_of first) [] (beginning_line form (split_play first)) s.front f old new r
   of_first f old new r h = subst
@@ -84,25 +84,21 @@ module _ (form : Form) (first s : Splitting) (same : s ≡ record first { front 
         rw (last.1, last.2) (progress_last (game_of first) first.most reads []
         (beginning_line form (split_play first)) list first.front old s.front None new n progress last.0)
 
-    -- it was refused memory
-    pub line_refused : (x : ScreenFault) → x ≡ next.Memory
+    -- it was refused memory, or a prefix of its line was written
+    pub line_ends : (x : DeviceFault)
         → NextWrites (game_of s) [] (beginning_line form (split_play s)) s.front f new new' (Err x)
-        → WritesSome (game_of first) [] (beginning_line form (split_play first)) list first.front f old new' n
-    line_refused x is h =
-        let refused = of_first f new new' (Err next.Memory) (subst (λ (y : ScreenFault). NextWrites (game_of s) []
-        (beginning_line form (split_play s)) s.front f new new' (Err y)) is h) in
+        → WritesRuns (game_of first) [] (beginning_line form (split_play first)) list first.front f old new'
+        (Err (fault_after x n))
+    line_ends next.Memory h =
+        let refused = of_first f new new' (Err next.Memory) h in
         rw (refused.1, refused.2) (progress_some (game_of first) first.most reads [] (beginning_line form
         (split_play first)) list first.front old s.front None new n progress unlimited refused.0)
-
-    -- a part of its line was written
-    pub line_begun : (x : ScreenFault) → x ≡ next.Write
-        → NextWrites (game_of s) [] (beginning_line form (split_play s)) s.front f new new' (Err x)
-        → WritesInto (game_of first) [] (beginning_line form (split_play first)) list first.front f old new' n
-    line_begun x is h =
-        let part = of_first f new new' (Err next.Write) (subst (λ (y : ScreenFault). NextWrites (game_of s) []
-        (beginning_line form (split_play s)) s.front f new new' (Err y)) is h) in
+    line_ends next.Write h =
+        let part = of_first f new new' (Err next.Write) h in
         rw part.2 (progress_into (game_of first) first.most reads [] (beginning_line form (split_play first)) list
         first.front old s.front None new new' n part.0 progress unlimited part.1 part.3)
+    line_ends next.Read h = absurd h
+    line_ends next.TooLong h = absurd h
 
     -- it was written
     module _ (b : Bool) (is : b ≡ true)

@@ -2,29 +2,56 @@
 -- Main lemmas: `one_more` and `none_next`.
 use Rattle.std.proofs.Common.{◌≡◌, ◌∙◌, ap, subst, ℕ, zero, suc, ◌+◌, ◌-◌, ◌^◌, ◌<◌, min, List}
 use Rattle.std.proofs.Common.{length, Bool, true, false, not, eqb, Option, Some, None, Result, Ok}
-use Rattle.std.proofs.Common.{Err, arith}
+use Rattle.std.proofs.Common.{Err, arith, refl}
 use Rattle.std.proofs.lemmas.Bool.{ne_eqb}
 use Rattle.std.specs.Option.{option_eq}
 use Rattle.ptb_answers.specs.declared.form.Form.{Form}
-use Rattle.ptb_answers.specs.Outcome.{Answers, IsReader}
+use Rattle.ptb_answers.specs.Outcome.{Answers, Outcome, IsReader}
 use Rattle.ptb_explore.specs.declared.fault.ExploreFault.{ExploreFault}
 use Rattle.ptb_explore.specs.declared.fault.ExploreFault.TheVariants.{Memory, Write}
-use Rattle.ptb_devices.specs.declared.fault.ScreenFault.{ScreenFault}
-use Rattle.ptb_devices.specs.declared.fault.ScreenFault.TheVariants as next
+use Rattle.ptb_text.specs.declared.device_fault.DeviceFault.{DeviceFault}
+use Rattle.ptb_text.specs.declared.device_fault.DeviceFault.TheVariants as next
 use Rattle.ptb_explore.specs.Explorations.{Exploration, play_of, most_of}
-use Rattle.ptb_explore.specs.Listing.{less_one, NextWrites, WritesList, WritesSome, WritesInto}
+use Rattle.ptb_devices.specs.Screens.{IsScreenFault}
+use Rattle.ptb_explore.specs.Listing.{fault_after, less_one, NextWrites, WritesList, WritesRuns}
 use Rattle.ptb_explore.specs.Report.{report}
 use Rattle.ptb_explore.specs.RunTree.{Front, runs_after}
 use Rattle.ptb_explore.proofs.Progress.{Progress, progress_more, progress_whole, progress_last}
 use Rattle.ptb_explore.proofs.Progress.{progress_some, progress_into, fewer_left}
 
 -- a refusal of memory is no fault of the writer
-pub memory_no_write : {T P : Type 0} {x : ScreenFault} → x ≡ next.Memory
-    → ◌≡◌ {A = Result T ScreenFault} (Err x) (Err next.Write) → P
-memory_no_write is h = absurd cc
+memory_no_write : {T P : Type 0} → ◌≡◌ {A = Result T DeviceFault} (Err next.Memory) (Err next.Write) → P
+memory_no_write h = absurd cc
 
-pub memory_told : {T P : Type 0} {n k : ℕ} → ◌≡◌ {A = Result T ExploreFault} (Err (Memory n)) (Err (Write k)) → P
+memory_told : {T P : Type 0} {n k : ℕ} → ◌≡◌ {A = Result T ExploreFault} (Err (Memory n)) (Err (Write k)) → P
 memory_told h = absurd cc
+
+-- where a fault of the writer ends the writing, the writer has failed
+pub ended_failed : {S T P : Type 0} (x : DeviceFault) → IsScreenFault x
+    → (◌≡◌ {A = Result S DeviceFault} (Err x) (Err next.Write) → P) → (n k : ℕ)
+    → ◌≡◌ {A = Result T ExploreFault} (Err (fault_after x n)) (Err (Write k)) → P
+ended_failed next.Write s failed n k h = failed refl
+ended_failed next.Memory s failed n k h = memory_told h
+ended_failed next.Read s failed n k h = absurd s
+ended_failed next.TooLong s failed n k h = absurd s
+
+-- and where another does, it has not
+pub ended_unfailed : {S T P : Type 0} (x : DeviceFault) → IsScreenFault x
+    → ((◌≡◌ {A = Result S DeviceFault} (Err x) (Err next.Write) → ⊥) → P) → (n : ℕ)
+    → ((k : ℕ) → ◌≡◌ {A = Result T ExploreFault} (Err (fault_after x n)) (Err (Write k)) → ⊥) → P
+ended_unfailed next.Write s unfailed n none = absurd (none n refl)
+ended_unfailed next.Memory s unfailed n none = unfailed (λ h. memory_no_write h)
+ended_unfailed next.Read s unfailed n none = absurd s
+ended_unfailed next.TooLong s unfailed n none = absurd s
+
+-- what ends the writing of a report is a fault of a screen
+pub next_kind : {A W : Type 0} (play : Answers → Outcome A W) (under : Answers) (report : Answers → List ℕ)
+    (f f' : Front) (old new : Option (List ℕ)) (x : DeviceFault) → NextWrites play under report f f' old new (Err x)
+    → IsScreenFault x
+next_kind play under report f f' old new next.Write h = tt
+next_kind play under report f f' old new next.Memory h = tt
+next_kind play under report f f' old new next.Read h = absurd h
+next_kind play under report f f' old new next.TooLong h = absurd h
 
 -- The explorer is at e, and was at `first` when the first report was to be written.
 module _ (form : Form) (first e : Exploration) (same : e ≡ record first {
@@ -37,7 +64,7 @@ module _ (form : Form) (first e : Exploration) (same : e ≡ record first {
   same_after n h = h ∙ ap (λ (x : Exploration). record x { front = n.front; kept = n.kept; played = n.played }) same
 
   -- what is played stays the same
-  of_first : (f : Front) (old new : Option (List ℕ)) (r : Result Bool ScreenFault)
+  of_first : (f : Front) (old new : Option (List ℕ)) (r : Result Bool DeviceFault)
       → NextWrites (play_of e) e.under (report form (play_of e)) e.front f old new r
       → NextWrites (play_of first) first.under (report form (play_of first)) e.front f old new r
   of_first f old new r h =
@@ -82,25 +109,21 @@ module _ (form : Form) (first e : Exploration) (same : e ≡ record first {
             let none : true ≡ not (option_eq eqb (Some 0) (Some 0)) = rw is at wanted in
             absurd cc
 
-        -- there was no memory for it
-        pub list_refused : (x : ScreenFault) → x ≡ next.Memory
+        -- there was no memory for it, or a prefix of it was written
+        pub next_ends : (x : DeviceFault)
             → NextWrites (play_of e) e.under (report form (play_of e)) e.front f new new' (Err x)
-            → WritesSome (play_of first) first.under (report form (play_of first)) list first.front f old new' n
-        list_refused x is h =
-            let stays = of_first f new new' (Err next.Memory) (subst (λ (y : ScreenFault). NextWrites
-            (play_of e) e.under (report form (play_of e)) e.front f new new' (Err y)) is h) in
+            → WritesRuns (play_of first) first.under (report form (play_of first)) list first.front f old new'
+            (Err (fault_after x n))
+        next_ends next.Memory h =
+            let stays = of_first f new new' (Err next.Memory) h in
             rw (stays.1, stays.2) (progress_some (play_of first) (most_of first) reads first.under
             (report form (play_of first)) list first.front old e.front remaining new n progress unused stays.0)
-
-        -- a prefix of it was written
-        pub part_written : (x : ScreenFault) → x ≡ next.Write
-            → NextWrites (play_of e) e.under (report form (play_of e)) e.front f new new' (Err x)
-            → WritesInto (play_of first) first.under (report form (play_of first)) list first.front f old new' n
-        part_written x is h =
-            let part = of_first f new new' (Err next.Write) (subst (λ (y : ScreenFault). NextWrites (play_of e) e.under
-            (report form (play_of e)) e.front f new new' (Err y)) is h) in
+        next_ends next.Write h =
+            let part = of_first f new new' (Err next.Write) h in
             rw part.2 (progress_into (play_of first) (most_of first) reads first.under (report form (play_of first))
             list first.front old e.front remaining new new' n part.0 progress unused part.1 part.3)
+        next_ends next.Read h = absurd h
+        next_ends next.TooLong h = absurd h
 
         -- it was written
         module _ (b : Bool) (is : b ≡ true)

@@ -3,6 +3,7 @@
 --     text report list                  the reports of a list of runs, one after the other
 --     front_after f list                     where a listing is after a list of runs
 --     less_one n                        how many may still be written after one more
+--     fault_after fault n               the fault of a writing that a device's fault ended after n reports
 --     NextWrites ..                     what the writing of the next report leaves
 --     WritesRuns ..                     what the writing of a list of reports leaves
 use Rattle.std.specs.Prelude.{◌≡◌, ℕ, ◌-◌, ◌^◌, List, [], ◌∷◌, ◌++◌, length, min, Bool, true, false}
@@ -13,8 +14,8 @@ use Rattle.ptb_text.specs.Device.{TakesSome}
 use Rattle.ptb_answers.specs.Outcome.{Answers, Outcome}
 use Rattle.ptb_explore.specs.declared.fault.ExploreFault.{ExploreFault}
 use Rattle.ptb_explore.specs.declared.fault.ExploreFault.TheVariants.{Memory, Write}
-use Rattle.ptb_devices.specs.declared.fault.ScreenFault.{ScreenFault}
-use Rattle.ptb_devices.specs.declared.fault.ScreenFault.TheVariants as next
+use Rattle.ptb_text.specs.declared.device_fault.DeviceFault.{DeviceFault}
+use Rattle.ptb_text.specs.declared.device_fault.DeviceFault.TheVariants as next
 use Rattle.ptb_explore.specs.RunTree.{Front, At, End, IsNextRun, IsLast}
 
 abbrev pub text : (Answers → List ℕ) → List Answers → List ℕ
@@ -33,15 +34,23 @@ less_one (Some n) = Some (n - 1)
 abbrev pub count_of : List Answers → ℕ
 count_of list = min (length list) (2 ^ 64 - 1)
 
+-- memory was refused, or the writer failed
+abbrev pub fault_after : DeviceFault → ℕ → ExploreFault
+fault_after next.Memory n = Memory n
+fault_after next.Read n = Write n
+fault_after next.TooLong n = Write n
+fault_after next.Write n = Write n
+
 module _ {A W : Type 0} (play : Answers → Outcome A W) (under : Answers) (report : Answers → List ℕ) where
   -- its report was written, or no run is left, or one is left and nothing was written, or a prefix of its report was
-  abbrev pub NextWrites : Front → Front → Option (List ℕ) → Option (List ℕ) → Result Bool ScreenFault → Type 0
+  abbrev pub NextWrites : Front → Front → Option (List ℕ) → Option (List ℕ) → Result Bool DeviceFault → Type 0
   NextWrites f f' old new (Ok true) = (a : Answers) × IsNextRun play under f a × (f' ≡ At a)
       × Appends old new (report a)
   NextWrites f f' old new (Ok false) = IsLast play under f × (f' ≡ End) × (new ≡ old)
   NextWrites f f' old new (Err next.Memory) = (IsLast play under f → ⊥) × (f' ≡ f) × (new ≡ old)
   NextWrites f f' old new (Err next.Write) = (a : Answers) × IsNextRun play under f a × (f' ≡ At a)
       × TakesSome old new (report a)
+  NextWrites f f' old new (Err other) = ⊥
 
   -- the reports of the complete list were written; it is after the list, or past the last run
   pub record WritesList (list : List Answers) (f f' : Front) (old new : Option (List ℕ)) (n : ℕ) : Type 0 where

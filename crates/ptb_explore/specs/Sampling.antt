@@ -16,18 +16,19 @@ use Rattle.ptb_answers.specs.Drawn.{IsDrawnFrom, sampled_runs}
 use Rattle.ptb_machine.specs.Play.{Finish}
 use Rattle.ptb_explore.specs.declared.fault.ExploreFault.{ExploreFault}
 use Rattle.ptb_explore.specs.declared.fault.ExploreFault.TheVariants.{Memory, Write}
-use Rattle.ptb_devices.specs.declared.fault.ScreenFault.{ScreenFault}
-use Rattle.ptb_devices.specs.declared.fault.ScreenFault.TheVariants as next
+use Rattle.ptb_text.specs.declared.device_fault.DeviceFault.{DeviceFault}
+use Rattle.ptb_text.specs.declared.device_fault.DeviceFault.TheVariants as next
 use Rattle.ptb_explore.specs.Listing.{text}
 use Rattle.ptb_explore.specs.RunTree.{IsRun}
 
 -- ---- what is written
 
 module _ (report : Answers → List ℕ) where
-  abbrev pub WritesRun : Answers → Option (List ℕ) → Option (List ℕ) → Result (Unit {0}) ScreenFault → Type 0
+  abbrev pub WritesRun : Answers → Option (List ℕ) → Option (List ℕ) → Result (Unit {0}) DeviceFault → Type 0
   WritesRun a old new (Ok done) = Appends old new (report a)
   WritesRun a old new (Err next.Memory) = new ≡ old
   WritesRun a old new (Err next.Write) = TakesSome old new (report a)
+  WritesRun a old new (Err other) = ⊥
 
   -- the reports of the first n runs were written, and not of the complete list
   pub record WritesFirst (list : List Answers) (old new : Option (List ℕ)) (n : ℕ) : Type 0 where

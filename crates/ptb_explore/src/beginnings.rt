@@ -19,8 +19,8 @@ use crate::plan::{Position, plan_next};
 use crate::report_text::write_list;
 use crate::runner::Runner;
 use ptb_answers::{Asked, Form};
-use ptb_machine::{Line, Rules, ScreenFault, run_laws};
-use ptb_text::{Program, Write};
+use ptb_machine::{Line, Rules, run_laws};
+use ptb_text::{DeviceFault, Program, Write};
 use std::alloc::{AllocError, Global};
 use std::marker::Model;
 
@@ -211,23 +211,23 @@ fn write_next_line<W: Write>(
     beginnings: &mut Beginnings,
     form: Form,
     writer: &mut W,
-) -> Result<bool, ScreenFault>
+) -> Result<bool, DeviceFault>
     ensures same { beginnings.new ≡ record beginnings.old { front = beginnings.new.front } }
     ensures writes { NextWrites (stopped beginnings.old.most (split_play beginnings.old)) []
         (beginning_line form (split_play beginnings.old)) beginnings.old.front beginnings.new.front
         (W.contents writer.old) (W.contents writer.new) result }
-    ensures failed { IsErrOf result ScreenFault.Write
+    ensures failed { IsErrOf result DeviceFault.Write
         → HasFailed (W.failures writer.old) (W.failures writer.new) }
-    ensures unfailed { ¬ IsErrOf result ScreenFault.Write
+    ensures unfailed { ¬ IsErrOf result DeviceFault.Write
         → W.failures writer.new ≡ W.failures writer.old }
 {
     match beginnings.next() {
-        Err(_) => Err(ScreenFault::Memory),
+        Err(_) => Err(DeviceFault::Memory),
         Ok(false) => Ok(false),
         Ok(true) => {
             match write_list(writer, form, beginnings.asked()) {
                 Ok(()) => Ok(true),
-                Err(_) => Err(ScreenFault::Write),
+                Err(_) => Err(DeviceFault::Write),
             }
         }
     }
@@ -265,8 +265,7 @@ pub fn write_beginnings<W: Write>(
         match write_next_line(beginnings, form, writer) {
             Ok(true) => {}
             Ok(false) => return Ok(written),
-            Err(ScreenFault::Memory) => return Err(ExploreFault::Memory(written)),
-            Err(ScreenFault::Write) => return Err(ExploreFault::Write(written)),
+            Err(fault) => return Err(ExploreFault::after(fault, written)),
         }
         written = written.saturating_add(1);
     }

@@ -1,9 +1,11 @@
 // This file says why not all reports were written, and why there is no explorer.
 
 ghost use Rattle.std.specs.Prelude.{◌≡◌};
+ghost use Rattle.ptb_explore.specs.Listing.{fault_after};
 ghost use Rattle.ptb_explore.specs.declared.fault.OpenFault.TheVariants.{Memory};
 
 use crate::mismatch::Mismatch;
+use ptb_text::DeviceFault;
 use std::alloc::AllocError;
 use thiserror::Error;
 
@@ -18,6 +20,20 @@ pub enum ExploreFault {
     /// The writer failed. A prefix of the next report may have been written.
     #[error("cannot write")]
     Write(u64),
+}
+
+impl ExploreFault {
+    /// The fault of a writing that this fault of a device ended, after so many reports.
+    pub(crate) fn after(fault: DeviceFault, written: u64) -> ExploreFault
+        ensures { result ≡ fault_after fault written }
+    {
+        match fault {
+            DeviceFault::Memory => ExploreFault::Memory(written),
+            DeviceFault::Read | DeviceFault::TooLong | DeviceFault::Write => {
+                ExploreFault::Write(written)
+            }
+        }
+    }
 }
 
 /// Why there is no explorer of the runs that are asked for.

@@ -11,8 +11,8 @@ use crate::explorer::Explorer;
 use crate::fault::ExploreFault;
 use crate::report_writer::ReportWriter;
 use ptb_answers::Form;
-use ptb_machine::{ScreenFault, run_laws};
-use ptb_text::Write;
+use ptb_machine::run_laws;
+use ptb_text::{DeviceFault, Write};
 
 // Writes the report of the next run, and says whether there is one.
 fn write_next<W: Write>(
@@ -20,7 +20,7 @@ fn write_next<W: Write>(
     form: Form,
     reports: &mut ReportWriter,
     writer: &mut W,
-) -> Result<bool, ScreenFault>
+) -> Result<bool, DeviceFault>
     ensures same { explorer.new ≡ record explorer.old {
       front = explorer.new.front;
       kept = explorer.new.kept;
@@ -30,17 +30,17 @@ fn write_next<W: Write>(
     ensures writes { NextWrites (play_of explorer.old) explorer.old.under
         (report form (play_of explorer.old)) explorer.old.front explorer.new.front
         (W.contents writer.old) (W.contents writer.new) result }
-    ensures failed { IsErrOf result ScreenFault.Write
+    ensures failed { IsErrOf result DeviceFault.Write
         → HasFailed (W.failures writer.old) (W.failures writer.new) }
-    ensures unfailed { ¬ IsErrOf result ScreenFault.Write
+    ensures unfailed { ¬ IsErrOf result DeviceFault.Write
         → W.failures writer.new ≡ W.failures writer.old }
 {
     match explorer.next() {
-        Err(_) => Err(ScreenFault::Memory),
+        Err(_) => Err(DeviceFault::Memory),
         Ok(None) => Ok(false),
         Ok(Some(run)) => match run.write(form, reports, writer) {
             Ok(()) => Ok(true),
-            Err(_) => Err(ScreenFault::Write),
+            Err(_) => Err(DeviceFault::Write),
         },
     }
 }
@@ -96,8 +96,7 @@ pub fn write_all_runs<W: Write>(
         match write_next(explorer, form, &mut reports, writer) {
             Ok(true) => {}
             Ok(false) => return Ok(written),
-            Err(ScreenFault::Memory) => return Err(ExploreFault::Memory(written)),
-            Err(ScreenFault::Write) => return Err(ExploreFault::Write(written)),
+            Err(fault) => return Err(ExploreFault::after(fault, written)),
         }
         written = written.saturating_add(1);
         remaining = one_less(remaining);

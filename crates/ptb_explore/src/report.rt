@@ -42,7 +42,7 @@ impl Report {
     ///
     /// # Errors
     ///
-    /// [`DeviceFault`] where the writer failed. A prefix of the report may have been taken then.
+    /// [`DeviceFault::Write`] where the writer failed. A prefix of the report may have been taken then.
     pub(crate) fn write<W: Write>(
         &self,
         form: Form,

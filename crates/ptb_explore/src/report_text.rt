@@ -1,6 +1,6 @@
 // This file writes the report of a run, and lists of answers.
 
-ghost use Rattle.std.specs.Prelude.{◌≡◌, ◌==◌, [], ◌++◌, OnOk, OnErr, codes, if◌then◌else◌};
+ghost use Rattle.std.specs.Prelude.{◌≡◌, ◌==◌, [], ◌++◌, IfErr, OnOk, OnErr, codes, if◌then◌else◌};
 ghost use Rattle.std.specs.Io.KnownBytes.{Appends};
 ghost use Rattle.ptb_text.specs.Device.{Gathers, TakesSome, HasFailed};
 ghost use Rattle.ptb_answers.specs.AnswerText.{in_form, item_text, spelling};
@@ -32,6 +32,7 @@ fn put_item<W: Write>(
     ensures fault { OnErr result (TakesSome (W.contents out.old) (W.contents out.new)
         (pending.old ++ (separator.now ++ item_text item))) }
     ensures failed { OnErr result (HasFailed (W.failures out.old) (W.failures out.new)) }
+    ensures kind { IfErr result (λ fault. fault ≡ DeviceFault.Write) }
     ensures unfailed { OnOk result (W.failures out.new ≡ W.failures out.old) }
 {
     let (mut answer, mut bound) = (Buffer::new(), Buffer::new());
@@ -74,6 +75,7 @@ fn put_answers<W: Write>(
     ensures fault { OnErr result (TakesSome (W.contents out.old) (W.contents out.new)
         (pending.old ++ spelling (asked_items form asked.now))) }
     ensures failed { OnErr result (HasFailed (W.failures out.old) (W.failures out.new)) }
+    ensures kind { IfErr result (λ fault. fault ≡ DeviceFault.Write) }
     ensures unfailed { OnOk result (W.failures out.new ≡ W.failures out.old) }
 {
     if asked.is_empty() {
@@ -100,6 +102,7 @@ pub(crate) fn write_in_pieces<W: Write>(
     ensures fault { OnErr result (TakesSome (W.contents out.old) (W.contents out.new)
         (report_text (asked_items form asked.now) word.now steps transcript.now)) }
     ensures failed { OnErr result (HasFailed (W.failures out.old) (W.failures out.new)) }
+    ensures kind { IfErr result (λ fault. fault ≡ DeviceFault.Write) }
     ensures unfailed { OnOk result (W.failures out.new ≡ W.failures out.old) }
 {
     let mut pending = Pending::new();
@@ -122,13 +125,14 @@ pub(crate) fn write_in_pieces<W: Write>(
 ///
 /// # Errors
 ///
-/// [`DeviceFault`] where the writer failed. A prefix of the line may have been taken then.
+/// [`DeviceFault::Write`] where the writer failed. A prefix of the line may have been taken then.
 pub fn write_list<W: Write>(out: &mut W, form: Form, asked: &[Asked]) -> Result<(), DeviceFault>
     ensures ok { OnOk result (Appends (W.contents out.old) (W.contents out.new)
         (list_line (asked_items form asked.now))) }
     ensures fault { OnErr result (TakesSome (W.contents out.old) (W.contents out.new)
         (list_line (asked_items form asked.now))) }
     ensures failed { OnErr result (HasFailed (W.failures out.old) (W.failures out.new)) }
+    ensures kind { IfErr result (λ fault. fault ≡ DeviceFault.Write) }
     ensures unfailed { OnOk result (W.failures out.new ≡ W.failures out.old) }
 {
     let mut pending = Pending::new();

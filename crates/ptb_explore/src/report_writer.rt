@@ -1,7 +1,7 @@
 // This file has the writer of many reports, one after the other, which keeps the text of the last one.
 
 ghost use Rattle.std.specs.Prelude.{◌≡◌, ◌==◌, ◌+◌, ◌<◌, ◌≤◌, [], ◌++◌, length, take, codes, decimal, None, Some};
-ghost use Rattle.std.specs.Prelude.{OnOk, OnErr, IsTrue, IsFalse, if◌then◌else◌, ℤ, Option};
+ghost use Rattle.std.specs.Prelude.{IfErr, OnOk, OnErr, IsTrue, IsFalse, if◌then◌else◌, ℤ, Option};
 ghost use Rattle.std.specs.Fmt.{signed_decimal};
 ghost use Rattle.std.specs.Io.KnownBytes.{Appends};
 ghost use Rattle.ptb_text.specs.Device.{TakesSome, HasFailed};
@@ -336,7 +336,7 @@ impl ReportWriter {
     ///
     /// # Errors
     ///
-    /// [`DeviceFault`] where the writer failed. A prefix of the report may have been taken then.
+    /// [`DeviceFault::Write`] where the writer failed. A prefix of the report may have been taken then.
     pub fn write<W: Write>(
         &mut self,
         out: &mut W,
@@ -351,6 +351,7 @@ impl ReportWriter {
         ensures fault { OnErr result (TakesSome (W.contents out.old) (W.contents out.new)
             (report_text (asked_items form asked.now) word.now steps transcript.now)) }
         ensures failed { OnErr result (HasFailed (W.failures out.old) (W.failures out.new)) }
+        ensures kind { IfErr result (λ fault. fault ≡ DeviceFault.Write) }
         ensures unfailed { OnOk result (W.failures out.new ≡ W.failures out.old) }
     {
         if self.gather(form, asked, word, steps, transcript) {

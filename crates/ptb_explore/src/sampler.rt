@@ -15,10 +15,8 @@ use crate::fault::ExploreFault;
 use crate::report::word;
 use crate::report_writer::ReportWriter;
 use ptb_answers::{Form, Seeded};
-use ptb_machine::{
-    Ending, Line, Lines, Machine, Player, Rules, RunFault, ScreenFault, TextScreen, run_laws,
-};
-use ptb_text::{Program, Write};
+use ptb_machine::{Ending, Line, Lines, Machine, Player, Rules, RunFault, TextScreen, run_laws};
+use ptb_text::{DeviceFault, Program, Write};
 use std::alloc::{AllocError, Global};
 
 /// Which runs a sample has, and how their reports are written.
@@ -119,7 +117,7 @@ fn write_run<W: Write>(
     rules: Rules,
     form: Form,
     writer: &mut W,
-) -> Result<(), ScreenFault>
+) -> Result<(), DeviceFault>
     requires fresh { sampler.old.chooser.bounds ≡ [] }
     ensures program { sampler.new.player ≡ sampler.old.player }
     ensures writes { WritesRun (report form (play sampler.old.player lines.now rules))
@@ -132,14 +130,14 @@ fn write_run<W: Write>(
           sampler.old.chooser.first (play sampler.old.player lines.now rules)));
       bounds = [];
     }) }
-    ensures failed { IsErrOf result ScreenFault.Write
+    ensures failed { IsErrOf result DeviceFault.Write
         → HasFailed (W.failures writer.old) (W.failures writer.new) }
-    ensures unfailed { ¬ IsErrOf result ScreenFault.Write
+    ensures unfailed { ¬ IsErrOf result DeviceFault.Write
         → W.failures writer.new ≡ W.failures writer.old }
 {
     run_laws();
     let Ok(ending) = play_next(alloc, sampler, lines, rules) else {
-        return Err(ScreenFault::Memory);
+        return Err(DeviceFault::Memory);
     };
     let chooser = &sampler.chooser;
     match sampler.reports.write(
@@ -154,7 +152,7 @@ fn write_run<W: Write>(
             sampler.chooser.forget();
             Ok(())
         }
-        Err(_) => Err(ScreenFault::Write),
+        Err(_) => Err(DeviceFault::Write),
     }
 }
 
@@ -183,10 +181,7 @@ fn write_runs<W: Write>(
     while remaining > 0 {
         match write_run(alloc, sampler, lines, rules, form, writer) {
             Ok(()) => {}
-            Err(ScreenFault::Memory) => {
-                return Err(ExploreFault::Memory(u64::from(runs - remaining)));
-            }
-            Err(ScreenFault::Write) => return Err(ExploreFault::Write(u64::from(runs - remaining))),
+            Err(fault) => return Err(ExploreFault::after(fault, u64::from(runs - remaining))),
         }
         remaining -= 1;
     }

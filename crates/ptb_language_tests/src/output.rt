@@ -66,7 +66,7 @@ fn writer_without_room(rt: HostRuntime) {
         let mut room = [b'.'; 13];
         let (exact, _) = room.split_at_mut(size);
         let wanted = if size < ALL.len() {
-            Err(DeviceFault)
+            Err(DeviceFault::Write)
         } else {
             Ok(())
         };

@@ -42,7 +42,7 @@ fn write_to<T: ByteSink + Drop>(
     let (word, mut out) = (word.as_bytes(), Device::new(sink));
     let (mut asked, count) = ([ONE_OF_1; 8], answers.len());
     if count > asked.len() || bounds.len() != count {
-        return Err(DeviceFault);
+        return Err(DeviceFault::Write);
     }
     for k in 0..count {
         let (answer, bound) = (answers[k], bounds[k]);
@@ -109,7 +109,7 @@ fn reports_without_room(rt: HostRuntime) {
             write(&mut room, form, run),
             due.as_bytes().starts_with(&room),
         );
-        expect_same(&rt, due, found, (Err(DeviceFault), true));
+        expect_same(&rt, due, found, (Err(DeviceFault::Write), true));
     }
 }
 
@@ -256,7 +256,7 @@ fn reports_after_others(rt: HostRuntime) {
         let mut room = [b'.'; 100];
         let done = write_to(&mut reports, &mut room[..], form, run);
         let found = (failed, long, done, holds(&room, due.as_bytes()));
-        expect_same(&rt, due, found, (Err(DeviceFault), Ok(()), Ok(()), true));
+        expect_same(&rt, due, found, (Err(DeviceFault::Write), Ok(()), Ok(()), true));
     }
 }
 
@@ -265,7 +265,7 @@ fn reports_after_others(rt: HostRuntime) {
 fn reports_in_small_pieces(rt: HostRuntime) {
     let mut reports = ReportWriter::new();
     for &(form, run, due) in IN_TURN {
-        for (calls_left, wanted) in [(2, Err(DeviceFault)), (100, Ok(()))] {
+        for (calls_left, wanted) in [(2, Err(DeviceFault::Write)), (100, Ok(()))] {
             let mut sips = Sips {
                 taken: Vec::new(rt.alloc()),
                 calls_left,
@@ -323,7 +323,7 @@ fn written(
     let done = reports.write(&mut out, Form::One, &asked, b"END", 7, &transcript);
     match done {
         Ok(()) => Ok(taken),
-        Err(DeviceFault) => Err(AllocError),
+        Err(_) => Err(AllocError),
     }
 }
 

@@ -96,7 +96,7 @@ fn written(alloc: Global, program: &Program, piece: usize) -> Result<Vec<u8>, Al
     let mut sink = make_sink(alloc, piece, 0);
     match list(program, &mut Device::new(&mut sink)) {
         Ok(()) => Ok(sink.taken),
-        Err(DeviceFault) => Err(AllocError),
+        Err(_) => Err(AllocError),
     }
 }
 
@@ -376,7 +376,7 @@ fn writers_that_take_nothing(rt: HostRuntime) {
     let program = two_lines(rt.alloc()).expect(&rt, "a program");
     let mut takes_nothing = make_sink(rt.alloc(), 0, 0);
     let result = list(&program, &mut Device::new(&mut takes_nothing));
-    expect_same(&rt, "result", result, Err(DeviceFault));
+    expect_same(&rt, "result", result, Err(DeviceFault::Write));
 }
 
 #[test]
@@ -386,7 +386,7 @@ fn writers_take_pieces(rt: HostRuntime) {
     let first = writer.write(b"ABCDE");
     let second = writer.write_all(b"DEFGH");
     let third = writer.write_all(b"G");
-    let wanted = (Ok(3), Err(DeviceFault), Ok(()));
+    let wanted = (Ok(3), Err(DeviceFault::Write), Ok(()));
     expect_same(&rt, "results", (first, second, third), wanted);
     expect_same(&rt, "bytes", sink.taken.as_slice(), b"ABCDEFG");
 }
@@ -398,7 +398,7 @@ fn writers_are_flushed(rt: HostRuntime) {
     let first = writer.write(b"ABC");
     let second = writer.flush();
     let third = writer.flush();
-    let wanted = (Ok(3), Err(DeviceFault), Ok(()));
+    let wanted = (Ok(3), Err(DeviceFault::Write), Ok(()));
     expect_same(&rt, "results", (first, second, third), wanted);
     expect_same(&rt, "bytes", sink.taken.as_slice(), b"ABC");
 }
@@ -409,7 +409,7 @@ fn rooms_take_what_they_have_room_for(rt: HostRuntime) {
     let mut writer = Device::new(&mut room[..]);
     let first = (writer.write_all(b"ABC"), writer.flush());
     let second = (writer.write_all(b"DEF"), writer.flush());
-    let wanted = ((Ok(()), Ok(())), (Err(DeviceFault), Ok(())));
+    let wanted = ((Ok(()), Ok(())), (Err(DeviceFault::Write), Ok(())));
     expect_same(&rt, "results", (first, second), wanted);
     expect_same(&rt, "bytes", &room[..], b"ABCDE");
 }
@@ -629,7 +629,16 @@ fn faults_print(rt: HostRuntime) {
     }
 }
 
+const DEVICE_FAULTS: &[(DeviceFault, &str)] = &[
+    (DeviceFault::Read, "cannot read"),
+    (DeviceFault::TooLong, "too many bytes"),
+    (DeviceFault::Write, "cannot write"),
+    (DeviceFault::Memory, "out of memory"),
+];
+
 #[test]
 fn faults_of_devices_print(rt: HostRuntime) {
-    expect_text(&rt, rt.alloc(), &DeviceFault, "the device failed");
+    for &(fault, text) in DEVICE_FAULTS {
+        expect_text(&rt, rt.alloc(), &fault, text);
+    }
 }

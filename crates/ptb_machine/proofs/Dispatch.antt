@@ -5,7 +5,7 @@ use Rattle.ptb_text.specs.declared.word.Word.{Word}
 use Rattle.ptb_text.specs.Statements.{Statements}
 use Rattle.ptb_answers.specs.declared.pause.Pause.{Pause}
 use Rattle.ptb_answers.specs.Choices.{Choices}
-use Rattle.ptb_devices.specs.declared.fault.ReadFault.{ReadFault}
+use Rattle.ptb_text.specs.declared.device_fault.DeviceFault.{DeviceFault}
 use Rattle.ptb_machine.specs.declared.location.Location.{Location}
 use Rattle.ptb_machine.specs.declared.stop.Stop.{Stop}
 use Rattle.ptb_machine.specs.Commands.{command_of, parts_of}
@@ -25,7 +25,7 @@ use Rattle.ptb_machine.proofs.Stops.{stops_along}
 -- ---- refusals
 
 -- of the chooser alone
-pub answers_refused : (refused : Pause → ℤ → Type 0) (unread : ReadFault → Type 0) (lines : Option (List (List ℕ)))
+pub answers_refused : (refused : Pause → ℤ → Type 0) (unread : DeviceFault → Type 0) (lines : Option (List (List ℕ)))
     (r : Refusal)
     → refused_answers refused r → refused_by refused unread lines r
 answers_refused refused unread lines (Unanswered z n) h = h

@@ -10,7 +10,7 @@ use Rattle.ptb_answers.specs.Outcome.{Answers}
 use Rattle.ptb_answers.specs.Choices.{Choices, with_answers, with_bounds}
 use Rattle.ptb_machine.specs.Breakage.{Breakage}
 use Rattle.ptb_machine.specs.Breakage as errors
-use Rattle.ptb_devices.specs.declared.fault.ReadFault.TheVariants as faults
+use Rattle.ptb_text.specs.declared.device_fault.DeviceFault.TheVariants as faults
 use Rattle.ptb_machine.specs.Devices.{ScreenState, Devices, Exchange, no_exchange, both_exchanges}
 use Rattle.ptb_machine.specs.Devices.{Shows, Exchanges, MayFollow, Refusal, Unanswered, Unread}
 use Rattle.ptb_machine.specs.Devices.{HasNoMemory, IsUnread, HasBroken}

@@ -21,8 +21,9 @@ use Rattle.ptb_expr.specs.Store.{Cells}
 use Rattle.ptb_expr.specs.Tree.{Tree}
 use Rattle.ptb_expr.specs.Value.{Work, fault, random_number, chosen, value}
 use Rattle.ptb_machine.specs.declared.ending.Ending.TheVariants as endings
-use Rattle.ptb_devices.specs.declared.fault.ReadFault.{ReadFault}
-use Rattle.ptb_devices.specs.declared.fault.ReadFault.TheVariants as reads
+use Rattle.ptb_text.specs.declared.device_fault.DeviceFault.{DeviceFault}
+use Rattle.ptb_text.specs.declared.device_fault.DeviceFault.TheVariants as reads
+use Rattle.ptb_devices.specs.Sources.{IsSourceFault}
 use Rattle.ptb_machine.specs.Breakage.{Breakage}
 use Rattle.ptb_machine.specs.Breakage as errors
 use Rattle.ptb_machine.specs.declared.stop.Stop.{Stop}
@@ -41,8 +42,7 @@ use Rattle.ptb_machine.specs.Devices.{Devices, Exchanges, no_exchange, with_choi
 use Rattle.ptb_machine.specs.Devices.{Unanswered, Unread, NoLine, refused_answers, refused_by}
 use Rattle.ptb_machine.specs.Devices.{HasBroken}
 use Rattle.ptb_machine.specs.Traces.{Trace, trace, with_due, still_due, after, once_shown, RefinesPart}
-use Rattle.ptb_machine.specs.Stops.{stop_of, stop_of_read, LacksLine, WantsLine, DeviceFails, Stops}
-use Rattle.ptb_machine.specs.Stops.{RefinesPartTo, Comes}
+use Rattle.ptb_machine.specs.Stops.{stop_of, stop_of_device, LacksLine, WantsLine, DeviceFails, Stops, RefinesPartTo, Comes}
 use Rattle.ptb_machine.proofs.Effects.{takes_joined, ask_lines, input_part, input_takes}
 use Rattle.ptb_machine.proofs.Exchanges.{shows_nothing, with_answers_nil}
 use Rattle.ptb_machine.proofs.PartRefinement.{leaves_to, leaves_itself, after_nothing, once_nothing}
@@ -490,15 +490,16 @@ module _ (said : List ℕ) (x : Tree) (prompt : List ℕ) where
     broken = h;
   }
 
-  pub take_unread : (refused : Refusal → Type 0) {o m : Trace} (most : ℕ) (at : Target) (f : ReadFault)
+  pub take_unread : (refused : Refusal → Type 0) {o m : Trace} (most : ℕ) (at : Target) (f : DeviceFault) → IsSourceFault f
       → most ≤ m.devices.most → RefinesPart o m (ask_for said x prompt) (goes_on at) → refused (Unread f)
       → Stops refused (RefinesPartTo o (with_most most m) (item_action said x prompt)) (with_most most m).devices
-      (stop_of_read f)
-  take_unread refused most at reads.Read fewer a h =
+      (stop_of_device f)
+  take_unread refused most at reads.Read k fewer a h =
       unread refused most at errors.Read fewer a (record { by = inl h }, refl)
-  take_unread refused most at reads.TooLong fewer a h =
+  take_unread refused most at reads.TooLong k fewer a h =
       unread refused most at errors.Read fewer a (record { by = inr h }, refl)
-  take_unread refused most at reads.Memory fewer a h =
+  take_unread refused most at reads.Write k fewer a h = absurd k
+  take_unread refused most at reads.Memory k fewer a h =
       unread refused most at errors.Memory fewer a (record { by = inr (inr h) }, refl)
 
   -- the lines given are then k
@@ -677,13 +678,13 @@ gives_same gives s xs u t e = subst (gives s xs) (sym e)
 module _ {L : Type 0} (gives : L → List (List ℕ) → L → Type 0) (more : (s t u : L) (xs ys : List (List ℕ))
     → gives s xs t → gives t ys u → gives s (xs ++ ys) u) where
   -- a call that gave none
-  pub gives_no_more : (s t u : L) (xs : List (List ℕ)) (r : Result (Option (Bor (List ℕ))) ReadFault)
-      → given_lines r ≡ [] → gives s xs t → gives t (given_lines r) u → gives s xs u
+  pub gives_no_more : (s t u : L) (xs : List (List ℕ)) (r : Result (Option (Bor (List ℕ))) DeviceFault) → given_lines r ≡ []
+      → gives s xs t → gives t (given_lines r) u → gives s xs u
   gives_no_more s t u xs r e a b = subst (λ (ys : List (List ℕ)). gives s ys u) (append-nil xs)
       (more s t u xs [] a (subst (λ (ys : List (List ℕ)). gives t ys u) e b))
 
   -- a call that gave one
-  pub gives_one_more : (s t u : L) (xs : List (List ℕ)) (l : List ℕ) (r : Result (Option (Bor (List ℕ))) ReadFault)
+  pub gives_one_more : (s t u : L) (xs : List (List ℕ)) (l : List ℕ) (r : Result (Option (Bor (List ℕ))) DeviceFault)
       → given_lines r ≡ l ∷ [] → gives s xs t → gives t (given_lines r) u → gives s (xs ++ l ∷ []) u
   gives_one_more s t u xs l r e a b = more s t u xs (l ∷ []) a (subst (λ (ys : List (List ℕ)). gives t ys u) e b)
 
@@ -695,7 +696,7 @@ none_given o f =
     (sym (append-nil o.devices.given)) (refines_part_refl o f)
 
 -- whoever may refuse a line too refuses answers
-pub answers_too : (refused : Pause → ℤ → Type 0) (unread : ReadFault → Type 0) (lines : Option (List (List ℕ)))
+pub answers_too : (refused : Pause → ℤ → Type 0) (unread : DeviceFault → Type 0) (lines : Option (List (List ℕ)))
     (r : Refusal)
     → refused_answers refused r → refused_by refused unread lines r
 answers_too refused unread lines (Unanswered pause bound) h = h

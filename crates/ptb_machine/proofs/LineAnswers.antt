@@ -4,8 +4,8 @@ use Rattle.std.proofs.Common.{◌≡◌, ◌≤◌, ◌+◌, ℕ, Bool, true, fa
 use Rattle.std.proofs.Common.{Some, None, Result, Ok, Err, ℤ, IfErr, IfOk, IfNone, subst, sym, Bor}
 use Rattle.std.specs.Prelude.{if◌then◌else◌}
 use Rattle.std.specs.Result.{IsErrAnd}
-use Rattle.ptb_devices.specs.declared.fault.ReadFault.{ReadFault}
-use Rattle.ptb_devices.specs.Sources.{NoneLeft}
+use Rattle.ptb_text.specs.declared.device_fault.DeviceFault.{DeviceFault}
+use Rattle.ptb_devices.specs.Sources.{IsSourceFault, NoneLeft}
 use Rattle.ptb_answers.specs.declared.pause.Pause.{Pause}
 use Rattle.ptb_expr.specs.declared.store.Target.{Target}
 use Rattle.ptb_expr.specs.Store.{Cells}
@@ -16,7 +16,7 @@ use Rattle.ptb_machine.specs.Act.{answer_instead, ask_for}
 use Rattle.ptb_machine.specs.Actions.{Action, goes_on}
 use Rattle.ptb_machine.specs.Act.{item_action}
 use Rattle.ptb_machine.specs.Devices.{Devices, nothing_refused, refused_answers, refused_by}
-use Rattle.ptb_machine.specs.Stops.{stop_of_read, Stops, RefinesPartTo, Comes}
+use Rattle.ptb_machine.specs.Stops.{stop_of_device, Stops, RefinesPartTo, Comes}
 use Rattle.ptb_machine.specs.Traces.{Trace, trace, with_due, still_due, RefinesPart}
 use Rattle.ptb_machine.proofs.Actions.{refines_part_on, stops_unrefused}
 use Rattle.ptb_machine.proofs.Due.{stops_none}
@@ -43,7 +43,7 @@ waiting {o = o} {m = m} f v most d fresh cells due a fewer b empty =
 module _ (said : List ℕ) (x : Tree) (prompt : List ℕ) {i o : Trace}
     (was : RefinesPart i o (item_action said x prompt) (item_action said x prompt)) where
   -- it stops before a line is wanted
-  pub answering_stops : {X : Type 0} (answers : Pause → ℤ → Type 0) (unread : ReadFault → Type 0)
+  pub answering_stops : {X : Type 0} (answers : Pause → ℤ → Type 0) (unread : DeviceFault → Type 0)
       (lines : Option (List (List ℕ))) (n : Trace) (ok : X → Action (Unit {0})) (r : Result X Stop) (e : Stop)
       → IsErrAnd r (λ y. y ≡ e)
       → Stops (refused_answers answers) (RefinesPartTo o (with_due (still_due n.due e) n) (ask_for said x prompt))
@@ -58,7 +58,7 @@ module _ (said : List ℕ) (x : Tree) (prompt : List ℕ) {i o : Trace}
       (ask_for said x prompt) e h)))
 
   -- what is gathered before a line is waited for can't be shown
-  pub answering_unshown : {X : Type 0} (answers : Pause → ℤ → Type 0) (unread : ReadFault → Type 0)
+  pub answering_unshown : {X : Type 0} (answers : Pause → ℤ → Type 0) (unread : DeviceFault → Type 0)
       (lines : Option (List (List ℕ))) {m : Trace} (n : Trace) (at : Target) (ok : X → Action (Unit {0}))
       (r : Result X Stop) (e : Stop)
       → IsErrAnd r (λ y. y ≡ e) → RefinesPart o m (ask_for said x prompt) (goes_on at)
@@ -74,25 +74,26 @@ module _ (said : List ℕ) (x : Tree) (prompt : List ℕ) {i o : Trace}
   -- it has come to a target, and the source then holds so many lines at most
   module _ {m : Trace} (at : Target) (comes : RefinesPart o m (ask_for said x prompt) (goes_on at)) (most : ℕ) where
     -- the source fails
-    pub answering_unread : {X : Type 0} (answers : Pause → ℤ → Type 0) (unread : ReadFault → Type 0)
-        (lines : Option (List (List ℕ))) (ok : X → Action (Unit {0})) (r : Result X Stop) (f : ReadFault)
-        → IsErrAnd r (λ y. y ≡ stop_of_read f) → m.due ≡ [] → most ≤ m.devices.most
-        → (line : Result (Option (Bor (List ℕ))) ReadFault) → line ≡ Err f → IfErr line unread
+    pub answering_unread : {X : Type 0} (answers : Pause → ℤ → Type 0) (unread : DeviceFault → Type 0)
+        (lines : Option (List (List ℕ))) (ok : X → Action (Unit {0})) (r : Result X Stop) (f : DeviceFault)
+        → IsErrAnd r (λ y. y ≡ stop_of_device f) → m.due ≡ [] → most ≤ m.devices.most
+        → (line : Result (Option (Bor (List ℕ))) DeviceFault) → line ≡ Err f → IfErr line IsSourceFault → IfErr line unread
         → Comes (refused_by answers unread lines) i (with_most most m) (item_action said x prompt) ok r
-    answering_unread answers unread lines ok r f is empty fewer line fails h =
+    answering_unread answers unread lines ok r f is empty fewer line fails k h =
         comes_err (refused_by answers unread lines) i (with_most most m) (item_action said x prompt) ok r
-        (stop_of_read f) is
+        (stop_of_device f) is
         (stops_none (refused_by answers unread lines) i (with_most most m) (item_action said x prompt)
-        (stop_of_read f) empty
-        (stops_after (refused_by answers unread lines) (with_most most m) was (stop_of_read f)
-        (take_unread said x prompt (refused_by answers unread lines) most at f fewer comes
-        (subst (λ (y : Result (Option (Bor (List ℕ))) ReadFault). IfErr y unread) fails h))))
+        (stop_of_device f) empty
+        (stops_after (refused_by answers unread lines) (with_most most m) was (stop_of_device f)
+        (take_unread said x prompt (refused_by answers unread lines) most at f
+        (subst (λ (y : Result (Option (Bor (List ℕ))) DeviceFault). IfErr y IsSourceFault) fails k) fewer comes
+        (subst (λ (y : Result (Option (Bor (List ℕ))) DeviceFault). IfErr y unread) fails h))))
 
     -- the source has none
-    module _ (line : Result (Option (Bor (List ℕ))) ReadFault) (none : line ≡ Ok None)
+    module _ (line : Result (Option (Bor (List ℕ))) DeviceFault) (none : line ≡ Ok None)
         (no_more : IfOk line (λ l. IfNone l (most ≡ 0))) where
       -- the run ends for lack of a line
-      pub answering_ends : (answers : Pause → ℤ → Type 0) (unread : ReadFault → Type 0) (lines : Option (List (List ℕ)))
+      pub answering_ends : (answers : Pause → ℤ → Type 0) (unread : DeviceFault → Type 0) (lines : Option (List (List ℕ)))
           → m.due ≡ [] → m.devices.choose ≡ None → IfOk line (λ l. IfNone l (NoneLeft lines))
           → Stops (refused_by answers unread lines) (RefinesPartTo i (with_due (still_due m.due stops.NoInput)
           (with_most most m)) (item_action said x prompt)) (with_most most m).devices stops.NoInput
@@ -102,10 +103,10 @@ module _ (said : List ℕ) (x : Tree) (prompt : List ℕ) {i o : Trace}
           (stops_after (refused_by answers unread lines) (with_most most m) was stops.NoInput
           (take_dry said x prompt (refused_by answers unread lines) most at
           (none_more (λ (z : ℕ). z) line none no_more) choose comes
-          (subst (λ (y : Result (Option (Bor (List ℕ))) ReadFault). IfOk y (λ l. IfNone l (NoneLeft lines))) none h)))
+          (subst (λ (y : Result (Option (Bor (List ℕ))) DeviceFault). IfOk y (λ l. IfNone l (NoneLeft lines))) none h)))
 
       -- an answer is asked for instead
-      pub answering_instead : (answers : Pause → ℤ → Type 0) (unread : ReadFault → Type 0)
+      pub answering_instead : (answers : Pause → ℤ → Type 0) (unread : DeviceFault → Type 0)
           (lines : Option (List (List ℕ))) (n : Trace) (bound : ℤ)
           → m.devices.choose ≡ Some bound → (r : Result (Unit {0}) Stop)
           → Comes (refused_answers answers) (with_most most m) n (answer_instead bound at) (λ u. goes_on tt) r
@@ -129,7 +130,7 @@ module _ (said : List ℕ) (x : Tree) (prompt : List ℕ) {i o : Trace}
       asked_line = line_asked said x prompt most at l given was comes fewer is
 
       -- a device fails, or a question is refused, before the item is done
-      pub answering_fails : {X : Type 0} (answers : Pause → ℤ → Type 0) (unread : ReadFault → Type 0)
+      pub answering_fails : {X : Type 0} (answers : Pause → ℤ → Type 0) (unread : DeviceFault → Type 0)
           (lines : Option (List (List ℕ))) (n : Trace) (ok : X → Action (Unit {0})) (r : Result X Stop) (e : Stop)
           → IsErrAnd r (λ y. y ≡ e)
           → Stops (refused_answers answers)

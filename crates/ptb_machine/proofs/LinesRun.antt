@@ -16,7 +16,7 @@ use Rattle.ptb_answers.specs.Outcome.{Answers}
 use Rattle.ptb_machine.specs.declared.ending.Ending.{Ending}
 use Rattle.ptb_machine.specs.Devices.{devices, refused_by}
 use Rattle.ptb_machine.specs.Stops.{NotMissed, UnlessMissed}
-use Rattle.ptb_devices.specs.declared.fault.ReadFault.{ReadFault}
+use Rattle.ptb_text.specs.declared.device_fault.DeviceFault.{DeviceFault}
 use Rattle.ptb_devices.specs.declared.reader_lines.ReaderLines.{ReaderLines}
 use Rattle.ptb_devices.specs.Inputs.{InputNow, InputState, ReadsOn, Refuses, asked, fault_at}
 use Rattle.ptb_devices.specs.Inputs.{fresh_input, known_lines, most_lines}
@@ -31,7 +31,8 @@ use Rattle.ptb_machine.specs.Runs.{IsLineOf, Runs, run_miss}
 use Rattle.ptb_machine.specs.Noted.{noted, noted_result}
 use Rattle.ptb_machine.specs.PlainRuns.{GoesBy, HasLine, IsUnreadable, PlaysWith, ReadsFor}
 use Rattle.ptb_machine.specs.PlainRuns.{ReadsLines, WantsMemory, input_limit, lines_taken}
-use Rattle.ptb_machine.specs.PlainRuns.{lines_wanted, run_fault}
+use Rattle.ptb_machine.specs.PlainRuns.{lines_wanted}
+use Rattle.ptb_machine.specs.CommandResults.{fault_of_device}
 use Rattle.ptb_machine.specs.Streams.{Reads, Writes, reads_of, writes_of}
 use Rattle.ptb_machine.proofs.Playing.{IsRunBetween, IsUnreadBetween, led_line, led_run, led_run_dry}
 use Rattle.ptb_machine.proofs.Playing.{led_run_takes, run_between, state_of, unread_between}
@@ -205,7 +206,7 @@ module _ {R W : Type 0} (remaining : R → Option (List ℕ)) (counted failures 
     ran_whole none answer is = subst IsRan (sym is) (ran_noted none)
 
     -- it has come to one
-    module _ (fault : ReadFault) (is : fault_at (line_input later).end ≡ Some fault) where
+    module _ (fault : DeviceFault) (is : fault_at (line_input later).end ≡ Some fault) where
       -- on the lines that it was given it ends for lack of one, or would ask for an answer
       dry : (answers : List (List ℕ) → Answers) → Goes answers
           → IsUnreadBetween contents written p rules (lines ++ []) (answers (lines ++ [])) w v
@@ -219,7 +220,7 @@ module _ {R W : Type 0} (remaining : R → Option (List ℕ)) (counted failures 
           (NotMissed rules.choose 0 (asked (line_input later)) (most_lines (line_input later)))
           (fault_missed (line_input later) rules.choose fault is) unmissed)
 
-      pub ran_unread : (answer : RunFault) → answer ≡ run_fault fault → IsRan (Err answer)
+      pub ran_unread : (answer : RunFault) → answer ≡ fault_of_device fault → IsRan (Err answer)
       ran_unread answer told =
           let same = sym left_by in
           let reads : answer ≡ runs.Read = told ∙ fault_unread (line_input later).end fault is in
@@ -242,7 +243,7 @@ module _ {R W : Type 0} (remaining : R → Option (List ℕ)) (counted failures 
                     (λ b. ReadsFor on.taken (lines_wanted rules.choose (length (input_lines b))
                     (lines_taken p (input_lines b) rules (answers (input_lines b))) (Err f)))) (sym told)
                     (reads_for p rules answers (asked (line_input later)) (counted i) (failures i) now lines
-                    (takes answers goes) (Err (run_fault fault))
+                    (takes answers goes) (Err (fault_of_device fault))
                     (wanted_at_fault (line_input later) (most_lines (line_input later)) rules fault is)
                     (remaining i) on),
               );

@@ -6,15 +6,14 @@ use Rattle.std.proofs.Common.{arith, Bor}
 use Rattle.std.proofs.Math.Nat.{le_refl}
 use Rattle.std.specs.Result.{IsErrAnd}
 use Rattle.std.proofs.lemmas.Result.{err_from_is_err_and}
-use Rattle.ptb_devices.specs.declared.fault.ReadFault.{ReadFault}
-use Rattle.ptb_devices.specs.declared.fault.ReadFault.TheVariants as reads
+use Rattle.ptb_text.specs.declared.device_fault.DeviceFault.{DeviceFault}
 use Rattle.ptb_devices.specs.Sources.{given_lines}
 use Rattle.ptb_machine.specs.declared.stop.Stop.{Stop}
 use Rattle.ptb_machine.specs.declared.stop.Stop.TheVariants as stops
 use Rattle.ptb_machine.specs.Stops.{still_shows, Miss, NoMiss, LineMiss, MemoryMiss, UnlessMissed}
 use Rattle.ptb_machine.specs.Stops.{stop_miss, miss_of, NotMissed}
 
-module _ (refused : ReadFault → Type 0) (P : Type 0) where
+module _ (refused : DeviceFault → Type 0) (P : Type 0) where
   -- what holds in any case
   pub miss_unmissed : P → (m : Miss) → UnlessMissed refused P m
   miss_unmissed p NoMiss = p
@@ -75,28 +74,28 @@ fewer_lines gives most falls s t xs h = omega (arith, falls s t xs h)
 -- one line fewer, where one is given
 pub falls_one : {L : Type 0} (gives : L → List (List ℕ) → L → Type 0) (most : L → ℕ)
     → ((s t : L) (xs : List (List ℕ)) → gives s xs t → most t + length xs ≤ most s)
-    → (s t : L) (r : Result (Option (Bor (List ℕ))) ReadFault) (l : List ℕ) → given_lines r ≡ l ∷ []
+    → (s t : L) (r : Result (Option (Bor (List ℕ))) DeviceFault) (l : List ℕ) → given_lines r ≡ l ∷ []
     → gives s (given_lines r) t → most t + 1 ≤ most s
 falls_one gives most falls s t r l e h = omega (arith, falls s t (given_lines r) h, ap length e)
 
 -- none, where the source says so
-pub none_more : {L : Type 0} (most : L → ℕ) {u : L} (r : Result (Option (Bor (List ℕ))) ReadFault) → r ≡ Ok None
+pub none_more : {L : Type 0} (most : L → ℕ) {u : L} (r : Result (Option (Bor (List ℕ))) DeviceFault) → r ≡ Ok None
     → IfOk r (λ l. IfNone l (most u ≡ 0)) → most u ≡ 0
 none_more most {u = u} r e h =
-    subst (λ (x : Result (Option (Bor (List ℕ))) ReadFault). IfOk x (λ l. IfNone l (most u ≡ 0))) e h
+    subst (λ (x : Result (Option (Bor (List ℕ))) DeviceFault). IfOk x (λ l. IfNone l (most u ≡ 0))) e h
 
 -- a call that gave a line
 pub given_missed : {L : Type 0} (missed : L → ℕ) (s t u : L) (line : Bor (List ℕ))
-    (r : Result (Option (Bor (List ℕ))) ReadFault)
+    (r : Result (Option (Bor (List ℕ))) DeviceFault)
     → r ≡ Ok (Some line) → missed t ≤ missed s → IfOk r (λ l. IfSome l (λ _. missed u ≤ missed t)) → missed u ≤ missed s
 given_missed missed s t u line r e h k =
-    let last : missed u ≤ missed t = subst
-    (λ (x : Result (Option (Bor (List ℕ))) ReadFault). IfOk x (λ l. IfSome l (λ _. missed u ≤ missed t))) e k in
+    let last : missed u ≤ missed t =
+    subst (λ (x : Result (Option (Bor (List ℕ))) DeviceFault). IfOk x (λ l. IfSome l (λ _. missed u ≤ missed t))) e k in
     omega (arith, h, last)
 
 -- ---- a source that has come from s to t
 
-module _ {L : Type 0} (refused : L → ReadFault → Type 0) (missed most : L → ℕ) (choose : Option ℤ) (s : L) where
+module _ {L : Type 0} (refused : L → DeviceFault → Type 0) (missed most : L → ℕ) (choose : Option ℤ) (s : L) where
   -- no line more was asked for without success
   pub fewer_missed : {X : Type 0} (t : L) → missed t ≤ missed s → (r : Result X Stop)
       → UnlessMissed (refused t) (NotMissed choose (missed s) (missed t) (most t)) (miss_of r)
@@ -129,7 +128,7 @@ module _ {L : Type 0} (refused : L → ReadFault → Type 0) (missed most : L �
         (NotMissed choose (missed s) (missed t) (most t)) missed_on (stop_miss e) k)
 
 -- a command that takes no line from the source
-pub alone_missed : {L X : Type 0} (refused : L → ReadFault → Type 0) (missed most : L → ℕ) (choose : Option ℤ) (s t : L)
+pub alone_missed : {L X : Type 0} (refused : L → DeviceFault → Type 0) (missed most : L → ℕ) (choose : Option ℤ) (s t : L)
     → t ≡ s → (r : Result X Stop)
     → UnlessMissed (refused t) (NotMissed choose (missed s) (missed t) (most t)) (miss_of r)
 alone_missed {L = L} refused missed most choose s t e r =

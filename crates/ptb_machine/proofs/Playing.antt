@@ -22,8 +22,8 @@ use Rattle.ptb_answers.specs.declared.rules.Rules.{Rules}
 use Rattle.ptb_machine.specs.declared.run_end.RunEnd.{RunEnd}
 use Rattle.ptb_machine.specs.Play.{Finish, play, stopping_line, unasked_lines, plain, plain_of}
 use Rattle.ptb_machine.specs.Effects.{Begins}
-use Rattle.ptb_devices.specs.declared.fault.ReadFault.{ReadFault}
-use Rattle.ptb_devices.specs.declared.fault.ReadFault.TheVariants as reads
+use Rattle.ptb_text.specs.declared.device_fault.DeviceFault.{DeviceFault}
+use Rattle.ptb_text.specs.declared.device_fault.DeviceFault.TheVariants as reads
 use Rattle.ptb_devices.specs.Sources.{NoneLeft}
 use Rattle.ptb_machine.specs.Breakage.{Breakage}
 use Rattle.ptb_machine.specs.Breakage as errors
@@ -80,7 +80,7 @@ pub record IsUnreadRun (p : StoredProgram) (rules : Rules) (lines : List (List �
 -- a source of lines gave some, and these come after them; it says what holds after its refusals, and whether the
 -- chooser noted that it was refused memory
 module _ (p : StoredProgram) (rules : Rules) (a : Answers) (refuses : Pause → ℤ → Type 0) (noticed : Bool)
-    (c d : Choices) (old new : ScreenState) (could can : ℕ) (given following : List (List ℕ)) (unread : ReadFault
+    (c d : Choices) (old new : ScreenState) (could can : ℕ) (given following : List (List ℕ)) (unread : DeviceFault
     → Type 0) (left : Option (List (List ℕ)))
     (led : (taken : Answers) (bounds : List ℤ) → AsksFor (play p (given ++ following) rules) taken bounds
     → d ≡ with_answers taken bounds c → IsLed refuses taken a) where
@@ -416,7 +416,7 @@ module _ (p : StoredProgram) (rules : Rules) (a : Answers) (refuses : Pause → 
 
 -- where the chooser goes by these answers on whatever lines
 module _ (p : StoredProgram) (rules : Rules) (answers : List (List ℕ) → Answers) (refuses : Pause → ℤ → Type 0)
-    (noticed : Bool) (c d : Choices) (old new : ScreenState) (could can : ℕ) (given : List (List ℕ)) (unread : ReadFault
+    (noticed : Bool) (c d : Choices) (old new : ScreenState) (could can : ℕ) (given : List (List ℕ)) (unread : DeviceFault
     → Type 0) (left : Option (List (List ℕ)))
     (result : Result Ending RunFault) (goes : GoesBy refuses c d answers p rules)
     (h : Runs (refused_by (noted noticed refuses) unread left) p rules (devices c old could rules.choose [])
@@ -445,7 +445,7 @@ module _ (p : StoredProgram) (rules : Rules) (answers : List (List ℕ) → Answ
 
 -- the line of its end is that of the play
 module _ (p : StoredProgram) (rules : Rules) (answers : List (List ℕ) → Answers) (refuses : Pause → ℤ → Type 0)
-    (noticed : Bool) (c d : Choices) (old new : ScreenState) (could can : ℕ) (given : List (List ℕ)) (unread : ReadFault
+    (noticed : Bool) (c d : Choices) (old new : ScreenState) (could can : ℕ) (given : List (List ℕ)) (unread : DeviceFault
     → Type 0) (left : Option (List (List ℕ)))
     (goes : GoesBy refuses c d answers p rules) (over : can ≡ 0 → NoneLeft left)
     (end : RunEnd) (h : IsLineOf p rules (devices c old could rules.choose [])

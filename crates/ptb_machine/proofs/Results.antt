@@ -10,9 +10,8 @@ use Rattle.ptb_machine.specs.declared.ending.Ending.{Ending}
 use Rattle.ptb_machine.specs.declared.ending.Ending.TheVariants as endings
 use Rattle.ptb_machine.specs.declared.fault.RunFault.{RunFault}
 use Rattle.ptb_machine.specs.declared.fault.RunFault.TheVariants as faults
-use Rattle.ptb_devices.specs.declared.fault.ReadFault.{ReadFault}
-use Rattle.ptb_devices.specs.declared.fault.ScreenFault.{ScreenFault}
-use Rattle.ptb_devices.specs.declared.fault.ScreenFault.TheVariants as screens
+use Rattle.ptb_text.specs.declared.device_fault.DeviceFault.{DeviceFault}
+use Rattle.ptb_text.specs.declared.device_fault.DeviceFault.TheVariants as screens
 use Rattle.ptb_machine.specs.declared.stop.Stop.{Stop}
 use Rattle.ptb_machine.specs.declared.stop.Stop.TheVariants as stops
 use Rattle.ptb_machine.specs.Act.{report_bytes}
@@ -38,7 +37,7 @@ result_stopped o number text done s r is e =
 
 -- a fault that was reported, or not
 pub result_reported : (o n : Trace) (number : ℕ) (text : List ℕ) (f : Fault) (done : Result (Unit {0}) Stop)
-    (r : Result (Option Ending) RunFault) (shown : Result (Unit {0}) ScreenFault)
+    (r : Result (Option Ending) RunFault) (shown : Result (Unit {0}) DeviceFault)
     → done ≡ Err (stops.Fault f) → r ≡ reported f.kind shown → IsShown o n (report_bytes o.fresh number text f) shown
     → IsResultOf o n number text done r
 result_reported o n number text f done r shown e is shows =
@@ -57,7 +56,7 @@ not_over (Ok None) e = refl
 not_over (Ok (Some ending)) e = absurd cc
 not_over (Err x) e = absurd cc
 
-reported_over : (kind : FaultKind) (shown : Result (Unit {0}) ScreenFault) → is_over (reported kind shown) ≡ true
+reported_over : (kind : FaultKind) (shown : Result (Unit {0}) DeviceFault) → is_over (reported kind shown) ≡ true
 reported_over kind (Ok x) = refl
 reported_over kind (Err x) = refl
 
@@ -92,8 +91,10 @@ is_spent (Err faults.Read) = false
 is_spent (Err faults.Write) = false
 is_spent (Err faults.Spent) = true
 
-reported_unspent : (kind : FaultKind) (shown : Result (Unit {0}) ScreenFault) → is_spent (reported kind shown) ≡ false
+reported_unspent : (kind : FaultKind) (shown : Result (Unit {0}) DeviceFault) → is_spent (reported kind shown) ≡ false
 reported_unspent kind (Ok x) = refl
+reported_unspent kind (Err screens.Read) = refl
+reported_unspent kind (Err screens.TooLong) = refl
 reported_unspent kind (Err screens.Memory) = refl
 reported_unspent kind (Err screens.Write) = refl
 
@@ -121,12 +122,11 @@ result_unspent o n number text done r is e =
 
 -- ---- lines that the source didn't give
 
-reported_unmissed : (refused : ReadFault → Type 0) (P : Type 0) → P
-    → (kind : FaultKind) (shown : Result (Unit {0}) ScreenFault)
-    → UnlessMissed refused P (step_miss (reported kind shown))
+reported_unmissed : (refused : DeviceFault → Type 0) (P : Type 0) → P
+    → (kind : FaultKind) (shown : Result (Unit {0}) DeviceFault) → UnlessMissed refused P (step_miss (reported kind shown))
 reported_unmissed refused P p kind shown = miss_unmissed refused P p (step_miss (reported kind shown))
 
-pub result_missed : (refused : ReadFault → Type 0) (P : Type 0) (o n : Trace) (number : ℕ) (text : List ℕ)
+pub result_missed : (refused : DeviceFault → Type 0) (P : Type 0) (o n : Trace) (number : ℕ) (text : List ℕ)
     (done : Result (Unit {0}) Stop) (r : Result (Option Ending) RunFault)
     → IsResultOf o n number text done r → UnlessMissed refused P (miss_of done) → UnlessMissed refused P (step_miss r)
 result_missed refused P o n number text done r is h = by_result done is h

@@ -11,8 +11,9 @@ use Rattle.std.proofs.lemmas.List.{get_or-append-add, take-replicate}
 use Rattle.std.specs.Prelude.{◌==◌, ◌||◌, if◌then◌else◌, slice_index, IsErrOf, IsTrue, unsigned_abs, replicate}
 use Rattle.ptb_text.specs.Device.{HasFailed, TakesSome}
 use Rattle.ptb_expr.specs.Store.{Cells}
-use Rattle.ptb_devices.specs.declared.fault.ScreenFault.{ScreenFault}
-use Rattle.ptb_devices.specs.declared.fault.ScreenFault.TheVariants as screens
+use Rattle.ptb_text.specs.declared.device_fault.DeviceFault.{DeviceFault}
+use Rattle.ptb_text.specs.declared.device_fault.DeviceFault.TheVariants as screens
+use Rattle.ptb_devices.specs.Screens.{IsScreenFault}
 use Rattle.ptb_machine.specs.declared.ending.Ending.TheVariants as endings
 use Rattle.ptb_machine.specs.Breakage.{Breakage}
 use Rattle.ptb_machine.specs.Breakage as errors
@@ -25,7 +26,7 @@ use Rattle.ptb_machine.specs.Effects.{action_state}
 use Rattle.ptb_machine.specs.Devices.{ScreenState, Devices, with_screen, bytes_alone, Shows, nothing_refused, HasBroken}
 use Rattle.ptb_machine.specs.declared.stop.Stop.{Stop}
 use Rattle.ptb_machine.specs.Traces.{Trace, trace, fresh_after, RefinesPart}
-use Rattle.ptb_machine.specs.Stops.{stop_of_screen, WantsLine, DeviceFails, Stops, RefinesPartTo, Comes}
+use Rattle.ptb_machine.specs.Stops.{stop_of_device, WantsLine, DeviceFails, Stops, RefinesPartTo, Comes}
 use Rattle.ptb_machine.proofs.Exchanges.{with_answers_nil}
 use Rattle.ptb_machine.proofs.PartRefinement.{leaves_itself, leaves_to, refines_part_refl}
 
@@ -101,16 +102,18 @@ module _ (old new : ScreenState) (d : Devices) (fresh : Bool) (cells : Cells) (b
 
   -- by the contract of a screen
   pub not_shown : TakesSome old.shown new.shown bytes → old.failures ≤ new.failures → new.borrow ≡ old.borrow
-      → new.takes_memory ≡ old.takes_memory → (fault : ScreenFault)
+      → new.takes_memory ≡ old.takes_memory → (fault : DeviceFault) → IsScreenFault fault
       → (IsErrOf {T = Unit {0}} (Err fault) screens.Write → HasFailed old.failures new.failures)
       → ((IsErrOf {T = Unit {0}} (Err fault) screens.Write → ⊥) → new.failures ≡ old.failures)
       → (IsErrOf {T = Unit {0}} (Err fault) screens.Memory → IsTrue old.takes_memory)
       → Stops nothing_refused (RefinesPartTo (trace (with_screen old d) fresh cells)
-      (trace (with_screen new d) fresh cells) (show bytes)) (with_screen new d) (stop_of_screen fault)
-  not_shown t later borrow memory screens.Write failed unfailed refused =
+      (trace (with_screen new d) fresh cells) (show bytes)) (with_screen new d) (stop_of_device fault)
+  not_shown t later borrow memory screens.Read kind failed unfailed refused = absurd kind
+  not_shown t later borrow memory screens.TooLong kind failed unfailed refused = absurd kind
+  not_shown t later borrow memory screens.Write kind failed unfailed refused =
       part_shown t.0 (record { shown = t.2; same_borrow = borrow; same_memory = memory }) errors.Write tt
       (failed refl, later)
-  not_shown t later borrow memory screens.Memory failed unfailed refused =
+  not_shown t later borrow memory screens.Memory kind failed unfailed refused =
       part_shown t.0 (record { shown = t.2; same_borrow = borrow; same_memory = memory }) errors.Memory tt
       (record { by = inl (refused refl) }, unfailed (λ e. cc))
 

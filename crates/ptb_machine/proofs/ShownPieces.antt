@@ -6,23 +6,22 @@ use Rattle.std.specs.Result.{IsErrAnd}
 use Rattle.std.proofs.lemmas.Result.{err_from_is_err_and}
 use Rattle.ptb_expr.specs.declared.fault.Fault.{Fault}
 use Rattle.ptb_answers.specs.Outcome.{Answers}
-use Rattle.ptb_devices.specs.declared.fault.ScreenFault.{ScreenFault}
+use Rattle.ptb_text.specs.declared.device_fault.DeviceFault.{DeviceFault}
 use Rattle.ptb_machine.specs.Actions.{and_then, goes_on, show}
 use Rattle.ptb_machine.specs.Act.{newline, fault_word, report_bytes}
 use Rattle.ptb_machine.specs.Devices.{nothing_refused}
 use Rattle.ptb_machine.specs.Traces.{Trace, RefinesPart}
-use Rattle.ptb_machine.specs.Stops.{stop_of_screen, Stops, RefinesPartTo}
+use Rattle.ptb_machine.specs.Stops.{stop_of_device, Stops, RefinesPartTo}
 use Rattle.ptb_machine.specs.Reports.{IsShown}
 use Rattle.ptb_machine.proofs.Actions.{show_adds}
 use Rattle.ptb_machine.proofs.PartRefinement.{refines_part_same, refines_part_then, refines_part_under}
 use Rattle.ptb_machine.proofs.Stops.{stops_under, stops_after}
 
-pub shown_err : (o n : Trace) (bytes : List ℕ) (r : Result (Unit {0}) ScreenFault) (e : ScreenFault)
-    → IsErrAnd r (λ y. y ≡ e) → Stops nothing_refused (RefinesPartTo o n (show bytes)) n.devices (stop_of_screen e)
-    → IsShown o n bytes r
+pub shown_err : (o n : Trace) (bytes : List ℕ) (r : Result (Unit {0}) DeviceFault) (e : DeviceFault) → IsErrAnd r (λ y. y ≡ e)
+    → Stops nothing_refused (RefinesPartTo o n (show bytes)) n.devices (stop_of_device e) → IsShown o n bytes r
 shown_err o n bytes r e k s =
     let q = err_from_is_err_and r k in
-    subst (λ (x : Result (Unit {0}) ScreenFault). IsShown o n bytes x) (sym (q.1 ∙ ap Err q.2)) s
+    subst (λ (x : Result (Unit {0}) DeviceFault). IsShown o n bytes x) (sym (q.1 ∙ ap Err q.2)) s
 
 -- ---- two pieces
 
@@ -38,23 +37,23 @@ shown_first {o = o} xs ys m = refines_part_then (show_twice o xs ys) (refines_pa
 -- ---- a piece of a report, which the code has as us
 
 -- once it is shown, what is left is shown
-pub shown_then : {o m : Trace} (n : Trace) (us xs ys : List ℕ) (r : Result (Unit {0}) ScreenFault) → us ≡ xs
+pub shown_then : {o m : Trace} (n : Trace) (us xs ys : List ℕ) (r : Result (Unit {0}) DeviceFault) → us ≡ xs
     → RefinesPart o m (show us) (goes_on tt) → IsShown m n ys r → IsShown o n (xs ++ ys) r
 shown_then {o = o} {m = m} n us xs ys r e a b =
     by_result r (subst (λ (s : List ℕ). RefinesPart o m (show s) (goes_on tt)) e a) b
   where
-    by_result : (r : Result (Unit {0}) ScreenFault) → RefinesPart o m (show xs) (goes_on tt) → IsShown m n ys r
+    by_result : (r : Result (Unit {0}) DeviceFault) → RefinesPart o m (show xs) (goes_on tt) → IsShown m n ys r
         → IsShown o n (xs ++ ys) r
     by_result (Ok x) a b = refines_part_then (shown_first xs ys a) b
-    by_result (Err e) a b = stops_after nothing_refused n (shown_first xs ys a) (stop_of_screen e) b
+    by_result (Err e) a b = stops_after nothing_refused n (shown_first xs ys a) (stop_of_device e) b
 
 -- where it isn't shown, at the exit of a `?`
-pub unshown_first : (o n : Trace) (us xs ys : List ℕ) (r : Result (Unit {0}) ScreenFault) (e : ScreenFault) → us ≡ xs
+pub unshown_first : (o n : Trace) (us xs ys : List ℕ) (r : Result (Unit {0}) DeviceFault) (e : DeviceFault) → us ≡ xs
     → IsErrAnd r (λ y. y ≡ e) → IsShown o n us (Err e) → IsShown o n (xs ++ ys) r
 unshown_first o n us xs ys r e k q h =
     shown_err o n (xs ++ ys) r e q
-    (stops_after nothing_refused n (show_twice o xs ys) (stop_of_screen e)
-    (stops_under nothing_refused o n (show xs) (λ u. show ys) (λ u. show_adds ys) (stop_of_screen e)
+    (stops_after nothing_refused n (show_twice o xs ys) (stop_of_device e)
+    (stops_under nothing_refused o n (show xs) (λ u. show ys) (λ u. show_adds ys) (stop_of_device e)
     (subst (λ (s : List ℕ). IsShown o n s (Err e)) k h)))
 
 -- ---- a report
@@ -72,19 +71,19 @@ pieces_joined a b c d e =
     ∙ ap (λ (x : List ℕ). x ++ e) (sym (append_assoc a (b ++ c) d))
     ∙ ap (λ (x : List ℕ). x ++ d ++ e) (sym (append_assoc a b c))
 
-pub report_shown : (o m : Trace) (fresh : Bool) (n : ℕ) (t : List ℕ) (f : Fault) (r : Result (Unit {0}) ScreenFault)
+pub report_shown : (o m : Trace) (fresh : Bool) (n : ℕ) (t : List ℕ) (f : Fault) (r : Result (Unit {0}) DeviceFault)
     → IsShown o m (first_piece fresh n f ++ statement_line t f) r → IsShown o m (report_bytes fresh n t f) r
 report_shown o m fresh n t f r h =
     subst (λ (s : List ℕ). IsShown o m s r)
     (pieces_joined (first_piece fresh n f) (take f.mark t) (codes "?") (drop f.mark t) newline) h
 
 -- where three pieces are shown one after the other
-pub three_shown : (o m : Trace) (a b c : List ℕ) (r : Result (Unit {0}) ScreenFault) → IsShown o m (a ++ (b ++ c)) r
+pub three_shown : (o m : Trace) (a b c : List ℕ) (r : Result (Unit {0}) DeviceFault) → IsShown o m (a ++ (b ++ c)) r
     → IsShown o m (a ++ b ++ c) r
 three_shown o m a b c r h = subst (λ (s : List ℕ). IsShown o m s r) (sym (append_assoc a b c)) h
 
 -- where they are shown at once
-pub shown_same : (o m : Trace) (xs ys : List ℕ) (r : Result (Unit {0}) ScreenFault) → xs ≡ ys → IsShown o m xs r
+pub shown_same : (o m : Trace) (xs ys : List ℕ) (r : Result (Unit {0}) DeviceFault) → xs ≡ ys → IsShown o m xs r
     → IsShown o m ys r
 shown_same o m xs ys r e h = subst (λ (s : List ℕ). IsShown o m s r) e h
 

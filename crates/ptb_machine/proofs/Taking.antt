@@ -9,8 +9,8 @@ use Rattle.std.proofs.lemmas.Bool.{lt-ltb, le-ltb, ltb-true, ltb-false, eqb-fals
 use Rattle.std.specs.Io.KnownBytes.{Appends, Consumes}
 use Rattle.ptb_text.specs.Device.{GivesAtMost, GivesExactly, HasFailed, TakesSome}
 use Rattle.ptb_text.specs.Lines.{input_lines}
-use Rattle.ptb_devices.specs.declared.fault.ReadFault.{ReadFault}
-use Rattle.ptb_devices.specs.declared.fault.ReadFault.TheVariants as reads
+use Rattle.ptb_text.specs.declared.device_fault.DeviceFault.{DeviceFault}
+use Rattle.ptb_text.specs.declared.device_fault.DeviceFault.TheVariants as reads
 use Rattle.ptb_devices.specs.declared.line_buffer.InputEnd.{InputEnd}
 use Rattle.ptb_devices.specs.declared.line_buffer.InputEnd.TheVariants.{Open, Ended, Failed, Exceeded}
 use Rattle.ptb_devices.specs.CutLines.{kept_bytes, whole_lines, last_piece, last_line}
@@ -37,7 +37,8 @@ use Rattle.ptb_machine.specs.declared.ending.Ending.TheVariants as endings
 use Rattle.ptb_machine.specs.declared.fault.RunFault.{RunFault}
 use Rattle.ptb_machine.specs.Play.{plain}
 use Rattle.ptb_machine.specs.Noted.{noted_result}
-use Rattle.ptb_machine.specs.PlainRuns.{IsUnreadable, ShowsRun, ShowsQuestion, ShowsUnread, run_fault}
+use Rattle.ptb_machine.specs.PlainRuns.{IsUnreadable, ShowsRun, ShowsQuestion, ShowsUnread}
+use Rattle.ptb_machine.specs.CommandResults.{fault_of_device}
 use Rattle.ptb_machine.specs.PlainRuns.{lines_come, lines_taken, ending_wanted, lines_wanted}
 use Rattle.ptb_machine.specs.PlainRuns.{ReadsFor}
 use Rattle.ptb_machine.proofs.Playing.{IsRunBetween, IsUnreadBetween}
@@ -169,7 +170,7 @@ ends_at Ended h = absurd (h refl)
 ends_at Failed h = inl refl
 ends_at Exceeded h = inr refl
 
-faulty : (end : InputEnd) (fault : ReadFault) → fault_at end ≡ Some fault → fault_at end ≡ None → ⊥
+faulty : (end : InputEnd) (fault : DeviceFault) → fault_at end ≡ Some fault → fault_at end ≡ None → ⊥
 faulty end fault e h = absurd (let clash : Some fault ≡ None = sym e ∙ h in cc)
 
 unfailed_end : (end : InputEnd) → fault_at end ≡ None → end ≡ Failed → ⊥
@@ -178,7 +179,14 @@ unfailed_end end h e = absurd (let clash : Some reads.Read ≡ None = sym (ap fa
 within_end : (end : InputEnd) → fault_at end ≡ None → end ≡ Exceeded → ⊥
 within_end end h e = absurd (let clash : Some reads.TooLong ≡ None = sym (ap fault_at e) ∙ h in cc)
 
--- no fault is lack of memory
+-- no fault is one of a writer
+fault_of_no_writer : (end : InputEnd) → fault_at end ≡ Some reads.Write → ⊥
+fault_of_no_writer Open e = absurd cc
+fault_of_no_writer Ended e = absurd cc
+fault_of_no_writer Failed e = absurd cc
+fault_of_no_writer Exceeded e = absurd cc
+
+-- nor is one lack of memory
 pub fault_without_memory : (end : InputEnd) → fault_at end ≡ Some reads.Memory → ⊥
 fault_without_memory Open e = absurd cc
 fault_without_memory Ended e = absurd cc
@@ -186,9 +194,10 @@ fault_without_memory Failed e = absurd cc
 fault_without_memory Exceeded e = absurd cc
 
 -- so a run on such an input couldn't read a line
-pub fault_unread : (end : InputEnd) (fault : ReadFault) → fault_at end ≡ Some fault → run_fault fault ≡ runs.Read
+pub fault_unread : (end : InputEnd) (fault : DeviceFault) → fault_at end ≡ Some fault → fault_of_device fault ≡ runs.Read
 fault_unread end reads.Read e = refl
 fault_unread end reads.TooLong e = refl
+fault_unread end reads.Write e = absurd (fault_of_no_writer end e)
 fault_unread end reads.Memory e = absurd (fault_without_memory end e)
 
 module _ (wanted : ℕ) (known : Option (List ℕ)) (x f : ℕ) (n : InputNow) (given : List (List ℕ))
@@ -207,7 +216,7 @@ module _ (wanted : ℕ) (known : Option (List ℕ)) (x f : ℕ) (n : InputNow) (
   reads_unfailed h = on.unfailed (unfailed_end n.state.end h)
 
   -- where one has, the lines given are those that came complete
-  module _ (fault : ReadFault) (is : fault_at n.state.end ≡ Some fault) where
+  module _ (fault : DeviceFault) (is : fault_at n.state.end ≡ Some fault) where
     closed : n.state.end ≡ Open → ⊥
     closed e = absurd (let clash : None ≡ Some fault = sym (ap fault_at e) ∙ is in cc)
 
@@ -256,7 +265,7 @@ asked_one a = by_end a.end a.is_given where
   by_end Exceeded given = omega arith
 
 -- where a fault has come, a line was asked for without success
-pub fault_asked : (a : InputState) (fault : ReadFault) → fault_at a.end ≡ Some fault → asked a ≤ 0 → ⊥
+pub fault_asked : (a : InputState) (fault : DeviceFault) → fault_at a.end ≡ Some fault → asked a ≤ 0 → ⊥
 fault_asked a fault e h = by_end a.end a.is_given e h where
   by_end : (end : InputEnd) (given : Bool) → fault_at end ≡ Some fault → asked_at end given ≤ 0 → ⊥
   by_end Open given e h = absurd (let clash : None ≡ Some fault = e in cc)
@@ -313,25 +322,26 @@ pub wanted_within : (a : InputState) (most : ℕ) (rules : Rules) (result : Resu
 wanted_within a most rules result m = wanted_by_choose a most rules.choose result m
 
 -- by the fault that has come
-fault_within : (a : InputState) (fault : ReadFault) → fault_at a.end ≡ Some fault → (k : ℕ)
-    → k + asked a ≤ ending_wanted k (Err (run_fault fault))
+fault_within : (a : InputState) (fault : DeviceFault) → fault_at a.end ≡ Some fault → (k : ℕ)
+    → k + asked a ≤ ending_wanted k (Err (fault_of_device fault))
 fault_within a reads.Read e k = omega (arith, asked_one a)
 fault_within a reads.TooLong e k = omega (arith, asked_one a)
+fault_within a reads.Write e k = absurd (fault_of_no_writer a.end e)
 fault_within a reads.Memory e k = absurd (fault_without_memory a.end e)
 
-pub wanted_at_fault : (a : InputState) (most : ℕ) (rules : Rules) (fault : ReadFault) → fault_at a.end ≡ Some fault
-    → WantsWithin rules (Err (run_fault fault)) (asked a) most
+pub wanted_at_fault : (a : InputState) (most : ℕ) (rules : Rules) (fault : DeviceFault) → fault_at a.end ≡ Some fault
+    → WantsWithin rules (Err (fault_of_device fault)) (asked a) most
 wanted_at_fault a most rules fault e = by_choose rules.choose where
   by_choose : (choose : Option ℤ) (given all k : ℕ) → given ≤ k → k ≤ all → (most ≡ 0 → all ≤ given)
-      → given + asked a ≤ lines_wanted choose all k (Err (run_fault fault))
+      → given + asked a ≤ lines_wanted choose all k (Err (fault_of_device fault))
   by_choose None given all k fits part over = let within = fault_within a fault e k in omega (arith, fits, within)
   by_choose (Some n) given all k fits part over = by_all (k == all) where
-    by_all : (same : Bool) → given + asked a ≤ (if same then k + 1 else ending_wanted k (Err (run_fault fault)))
+    by_all : (same : Bool) → given + asked a ≤ (if same then k + 1 else ending_wanted k (Err (fault_of_device fault)))
     by_all true = omega (arith, fits, asked_one a)
     by_all false = let within = fault_within a fault e k in omega (arith, fits, within)
 
 -- where a fault has come, a line was asked for without success, though more could have come
-pub fault_missed : (a : InputState) (choose : Option ℤ) (fault : ReadFault) → fault_at a.end ≡ Some fault
+pub fault_missed : (a : InputState) (choose : Option ℤ) (fault : DeviceFault) → fault_at a.end ≡ Some fault
     → NotMissed choose 0 (asked a) (most_lines a) → ⊥
 fault_missed a None fault e m = fault_asked a fault e m
 fault_missed a (Some n) fault e (inl q) = fault_asked a fault e q
@@ -451,7 +461,7 @@ of_input P wanted x f n given each (Some c) on =
 -- on the lines that came complete, where a fault has come, it ends for lack of a line, or would ask for an answer
 pub shows_come : {W : Type 0} (contents : W → Option (List ℕ)) (written : W → ℕ) (p : StoredProgram) (rules : Rules)
     (a : List (List ℕ) → Answers) (w v : W) (wanted x f : ℕ) (n : InputNow) (given : List (List ℕ))
-    (known : Option (List ℕ)) (on : ReadsOn wanted (fresh known x f) given n) (fault : ReadFault)
+    (known : Option (List ℕ)) (on : ReadsOn wanted (fresh known x f) given n) (fault : DeviceFault)
     → fault_at n.state.end ≡ Some fault → IsUnreadBetween contents written p rules (given ++ []) (a (given ++ [])) w v
     → ShowsUnread rules.choose (plain p (lines_come on.taken) rules) (a (lines_come on.taken)) (contents w) (contents v)
 shows_come contents written p rules a w v wanted x f n given known on fault is run =

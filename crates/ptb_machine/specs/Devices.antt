@@ -14,8 +14,8 @@ use Rattle.ptb_answers.specs.declared.pause.Pause.{Pause}
 use Rattle.ptb_answers.specs.declared.pause.Pause.TheVariants as pauses
 use Rattle.ptb_answers.specs.Outcome.{Answers}
 use Rattle.ptb_answers.specs.Choices.{Choices, with_answers}
-use Rattle.ptb_devices.specs.declared.fault.ReadFault.{ReadFault}
-use Rattle.ptb_devices.specs.declared.fault.ReadFault.TheVariants as faults
+use Rattle.ptb_text.specs.declared.device_fault.DeviceFault.{DeviceFault}
+use Rattle.ptb_text.specs.declared.device_fault.DeviceFault.TheVariants as faults
 use Rattle.ptb_devices.specs.declared.screen.Screen.{Ghosts}
 use Rattle.ptb_machine.specs.Breakage.{Breakage}
 use Rattle.ptb_machine.specs.Breakage as errors
@@ -119,7 +119,7 @@ pub data Refusal : Type 0 where
   -- an answer to a question with this bound
   Unanswered : (pause : Pause) (bound : ℤ) → Refusal
   -- a line, for this fault
-  Unread : (fault : ReadFault) → Refusal
+  Unread : (fault : DeviceFault) → Refusal
   -- a line, as none is left
   NoLine : Refusal
 
@@ -132,7 +132,7 @@ refused_answers refused (Unanswered pause bound) = refused pause bound
 refused_answers refused (Unread fault) = ⊥
 refused_answers refused NoLine = ⊥
 
-abbrev pub refused_by : (Pause → ℤ → Type 0) → (ReadFault → Type 0) → Option (List (List ℕ)) → Refusal → Type 0
+abbrev pub refused_by : (Pause → ℤ → Type 0) → (DeviceFault → Type 0) → Option (List (List ℕ)) → Refusal → Type 0
 refused_by refused unread lines (Unanswered pause bound) = refused pause bound
 refused_by refused unread lines (Unread fault) = unread fault
 refused_by refused unread lines NoLine = NoneLeft lines

@@ -1,6 +1,5 @@
 -- This file defines what a plain run shows and reads.
 --     ShowsRun r old new e       of a run with the bytes and the ending r, the bytes were shown and the ending is e
---     run_fault fault            the fault of a run whose input isn't read
 --     lines_come taken           the lines that came complete in these bytes
 --     IsUnreadable known old new the input could not be read, or is too long
 --     IsLed refuses taken all    what a chooser is to answer begins with what it has answered
@@ -29,8 +28,6 @@ use Rattle.ptb_answers.specs.Choices.{AsksFor, Choices, with_answers}
 use Rattle.ptb_machine.specs.declared.ending.Ending.{Ending}
 use Rattle.ptb_machine.specs.declared.ending.Ending.TheVariants as endings
 use Rattle.ptb_devices.specs.CutLines.{whole_lines}
-use Rattle.ptb_devices.specs.declared.fault.ReadFault.{ReadFault}
-use Rattle.ptb_devices.specs.declared.fault.ReadFault.TheVariants as reads
 use Rattle.ptb_devices.specs.declared.whole_input.TheConstants.{INPUT_LIMIT}
 use Rattle.ptb_devices.specs.Sources.{ConsumesAtMost}
 use Rattle.ptb_answers.specs.declared.rules.Rules.{Rules}
@@ -43,11 +40,6 @@ use Rattle.ptb_machine.specs.Streams.{Reads, Writes}
 pub record ShowsRun (r : List ℕ × Ending) (old new : Option (List ℕ)) (e : Ending) : Type 0 where
   pub ending : e ≡ r.1
   pub bytes : Appends old new r.0
-
-abbrev pub run_fault : ReadFault → RunFault
-run_fault reads.Read = runs.Read
-run_fault reads.TooLong = runs.Read
-run_fault reads.Memory = runs.Memory
 
 -- the bytes that an input may have
 abbrev pub input_limit : ℕ

@@ -2,7 +2,7 @@
 --
 -- Where a device stops it, `left` is what is left to do. A question that was refused, or a line that isn't there, is
 -- what is left next; where a device broke, the screen may have shown some of what is left.
---     stop_of_screen, stop_of_read, stop_of    why a command stops where a device fails, and where an expression has no
+--     stop_of_device, stop_of                  why a command stops where a device fails, and where an expression has no
 --                                              value
 --     AsksNext f bound beside z            f asks a question next, which is refused for this pause
 --     Continues state shown left           what is left takes back nothing
@@ -26,10 +26,8 @@ use Rattle.ptb_answers.specs.declared.pause.Pause.TheVariants as pauses
 use Rattle.ptb_answers.specs.Outcome.{Answers, Outcome, Done, Asks}
 use Rattle.ptb_answers.specs.Choices.{SaysOut}
 use Rattle.ptb_machine.specs.declared.ending.Ending.TheVariants as endings
-use Rattle.ptb_devices.specs.declared.fault.ReadFault.{ReadFault}
-use Rattle.ptb_devices.specs.declared.fault.ReadFault.TheVariants as reads
-use Rattle.ptb_devices.specs.declared.fault.ScreenFault.{ScreenFault}
-use Rattle.ptb_devices.specs.declared.fault.ScreenFault.TheVariants as screens
+use Rattle.ptb_text.specs.declared.device_fault.DeviceFault.{DeviceFault}
+use Rattle.ptb_text.specs.declared.device_fault.DeviceFault.TheVariants as faults
 use Rattle.ptb_devices.specs.declared.lines.LineSource as sources
 use Rattle.ptb_machine.specs.Breakage.{Breakage}
 use Rattle.ptb_machine.specs.Breakage as errors
@@ -41,14 +39,11 @@ use Rattle.ptb_machine.specs.Effects.{action_state, Begins, TakesLines}
 use Rattle.ptb_machine.specs.Devices.{ScreenState, Devices, with_screen, Shows, Refusal, Unanswered, NoLine, HasBroken}
 use Rattle.ptb_machine.specs.Traces.{Trace, with_due, still_due, RefinesPart}
 
-abbrev pub stop_of_screen : ScreenFault → Stop
-stop_of_screen screens.Write = stops.Unwritten
-stop_of_screen screens.Memory = stops.Memory
-
-abbrev pub stop_of_read : ReadFault → Stop
-stop_of_read reads.Read = stops.Unread
-stop_of_read reads.TooLong = stops.Unread
-stop_of_read reads.Memory = stops.Memory
+abbrev pub stop_of_device : DeviceFault → Stop
+stop_of_device faults.Read = stops.Unread
+stop_of_device faults.TooLong = stops.Unread
+stop_of_device faults.Write = stops.Unwritten
+stop_of_device faults.Memory = stops.Memory
 
 -- a chooser that has no memory left is a device that breaks
 abbrev pub stop_of_pause : Pause → Stop
@@ -153,10 +148,10 @@ pub data Miss : Type 0 where
   MemoryMiss : Miss
 
 -- P holds, unless that is reported; `refused` is what holds after a fault of the source
-abbrev pub UnlessMissed : (ReadFault → Type 0) → Type 0 → Miss → Type 0
+abbrev pub UnlessMissed : (DeviceFault → Type 0) → Type 0 → Miss → Type 0
 UnlessMissed refused P NoMiss = P
 UnlessMissed refused P LineMiss = Unit {0}
-UnlessMissed refused P MemoryMiss = P ⊎ refused reads.Memory
+UnlessMissed refused P MemoryMiss = P ⊎ refused faults.Memory
 
 abbrev pub stop_miss : Stop → Miss
 stop_miss stops.NoInput = LineMiss

@@ -3,7 +3,7 @@
 ghost use Rattle.std.specs.Prelude.{◌≡◌};
 ghost use Rattle.ptb_machine.specs.declared.fault.RunFault.TheVariants.{Memory as RunMemory};
 
-use ptb_devices::ScreenFault;
+use ptb_text::DeviceFault;
 use std::alloc::AllocError;
 use thiserror::Error;
 
@@ -32,15 +32,16 @@ impl From<AllocError> for RunFault {
     }
 }
 
-impl From<ScreenFault> for RunFault {
-    ghost use Rattle.ptb_machine.specs.CommandResults.{fault_of_screen};
+impl From<DeviceFault> for RunFault {
+    ghost use Rattle.ptb_machine.specs.CommandResults.{fault_of_device};
 
-    ghost from_gives = { λ fault r. r ≡ fault_of_screen fault };
+    ghost from_gives = { λ fault r. r ≡ fault_of_device fault };
 
-    fn from(fault: ScreenFault) -> RunFault {
+    fn from(fault: DeviceFault) -> RunFault {
         match fault {
-            ScreenFault::Write => RunFault::Write,
-            ScreenFault::Memory => RunFault::Memory,
+            DeviceFault::Read | DeviceFault::TooLong => RunFault::Read,
+            DeviceFault::Write => RunFault::Write,
+            DeviceFault::Memory => RunFault::Memory,
         }
     }
 }

@@ -72,8 +72,7 @@ pub use player::Player;
 pub use program_code::ProgramCode;
 pub use ptb_answers::Rules;
 pub use ptb_devices::{
-    INPUT_LIMIT, Line, LineSource, Lines, ReadFault, ReaderLines, Screen, ScreenFault, TextScreen,
-    WriterScreen, read_lines,
+    INPUT_LIMIT, Line, LineSource, Lines, ReaderLines, Screen, TextScreen, WriterScreen, read_lines,
 };
 pub use registers::Registers;
 pub use reports::report;

@@ -9,7 +9,8 @@ ghost use Rattle.ptb_machine.specs.Reports.{IsShown};
 ghost use Rattle.ptb_machine.specs.Stops.{Comes};
 
 use crate::stop::Stop;
-use ptb_devices::{Screen, ScreenFault};
+use ptb_devices::Screen;
+use ptb_text::DeviceFault;
 
 // Whether a transcript is fresh once these bytes were shown.
 fn fresh_after(fresh: bool, bytes: &[u8]) -> bool
@@ -26,9 +27,9 @@ fn fresh_after(fresh: bool, bytes: &[u8]) -> bool
 ///
 /// # Errors
 ///
-/// [`ScreenFault`] where the screen doesn't show them all. `fresh` stays as it was then, and a
+/// [`DeviceFault`] where the screen doesn't show them all. `fresh` stays as it was then, and a
 /// prefix of the bytes may have been shown.
-pub fn put<S: Screen>(screen: &mut S, fresh: &mut bool, bytes: &[u8]) -> Result<(), ScreenFault>
+pub fn put<S: Screen>(screen: &mut S, fresh: &mut bool, bytes: &[u8]) -> Result<(), DeviceFault>
     ensures { (d : Devices) (cells : Cells) → IsShown
         (trace (with_screen (screen_state S.Screen screen.old) d) fresh.old cells)
         (trace (with_screen (screen_state S.Screen screen.new) d) fresh.new cells)

@@ -5,7 +5,7 @@ ghost use Rattle.std.specs.Io.KnownBytes.{Appends};
 ghost use Rattle.ptb_machine.specs.Play.{play};
 ghost use Rattle.ptb_machine.specs.Runs.{ending_alone};
 ghost use Rattle.ptb_machine.specs.PlainRuns.{GoesBy, HasLine, PlaysWith, ReadsLines};
-ghost use Rattle.ptb_machine.specs.PlainRuns.{WantsMemory, run_fault};
+ghost use Rattle.ptb_machine.specs.PlainRuns.{WantsMemory};
 ghost use Rattle.ptb_machine.specs.SeededRuns.{IsDrawn, SeededLaws};
 ghost use Rattle.ptb_machine.specs.Streams.{reads_of, writes_of};
 
@@ -16,7 +16,7 @@ use crate::laws::{run_laws, seeded_laws};
 use crate::memory_noted::MemoryNoted;
 use crate::run_end::RunEnd;
 use ptb_answers::{Chooser, Listed, Pause, Rules, Seeded};
-use ptb_devices::{ReadFault, ReaderLines, WriterScreen};
+use ptb_devices::{ReaderLines, WriterScreen};
 use ptb_text::{Program, Read, Write};
 use std::alloc::Global;
 
@@ -197,17 +197,7 @@ fn run_on_input<C: Chooser, R: Read, W: Write>(
     let ended = run_to_end(alloc, program, rules, chooser, &mut screen, &mut source);
     // The source keeps its fault, so that it is reported however the run ended.
     match source.fault() {
-        Some(fault) => Err(run_fault(fault)),
+        Some(fault) => Err(RunFault::from(fault)),
         None => chooser.conclude(ended),
-    }
-}
-
-// A run on an input that isn't read.
-fn run_fault(fault: ReadFault) -> RunFault
-    ensures { result ≡ run_fault fault }
-{
-    match fault {
-        ReadFault::Read | ReadFault::TooLong => RunFault::Read,
-        ReadFault::Memory => RunFault::Memory,
     }
 }

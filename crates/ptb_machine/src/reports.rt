@@ -12,8 +12,9 @@ use crate::fault_words::fault_line;
 use crate::output::put;
 use arrayvec::{ArrayVec, CapacityError};
 use itoa::Buffer;
-use ptb_devices::{Screen, ScreenFault};
+use ptb_devices::Screen;
 use ptb_expr::{Fault, FaultKind};
+use ptb_text::DeviceFault;
 
 /// How many bytes are put together, so that they are shown at once: a statement's text has at most
 /// 255.
@@ -66,7 +67,7 @@ fn put_joined<S: Screen>(
     first: &[u8],
     second: &[u8],
     third: &[u8],
-) -> Result<(), ScreenFault>
+) -> Result<(), DeviceFault>
     ensures { (d : Devices) (cells : Cells) → IsShown
         (trace (with_screen (screen_state S.Screen screen.old) d) fresh.old cells)
         (trace (with_screen (screen_state S.Screen screen.new) d) fresh.new cells)
@@ -86,7 +87,7 @@ fn put_joined<S: Screen>(
 ///
 /// # Errors
 ///
-/// [`ScreenFault`] where the screen could not be written. A prefix of the report may have been
+/// [`DeviceFault`] where the screen could not be written. A prefix of the report may have been
 /// shown then.
 pub fn report<S: Screen>(
     screen: &mut S,
@@ -94,7 +95,7 @@ pub fn report<S: Screen>(
     number: u16,
     text: &[u8],
     fault: Fault,
-) -> Result<(), ScreenFault>
+) -> Result<(), DeviceFault>
     ensures { (d : Devices) (cells : Cells) → IsShown
         (trace (with_screen (screen_state S.Screen screen.old) d) fresh.old cells)
         (trace (with_screen (screen_state S.Screen screen.new) d) fresh.new cells)

@@ -5,8 +5,8 @@ ghost use Rattle.ptb_expr.specs.Value.{fault};
 ghost use Rattle.ptb_machine.specs.Stops.{still_shows};
 
 use ptb_answers::Pause;
-use ptb_devices::{ReadFault, ScreenFault};
 use ptb_expr::{Fault, FaultKind};
+use ptb_text::DeviceFault;
 
 /// Why a command isn't done.
 #[derive(Clone, Copy, Debug, PartialEq, Eq)]
@@ -44,28 +44,16 @@ pub(crate) fn still_shows<X: Copy>(done: Result<X, Stop>) -> bool
     )
 }
 
-impl From<ScreenFault> for Stop {
-    ghost use Rattle.ptb_machine.specs.Stops.{stop_of_screen};
+impl From<DeviceFault> for Stop {
+    ghost use Rattle.ptb_machine.specs.Stops.{stop_of_device};
 
-    ghost from_gives = { λ fault r. r ≡ stop_of_screen fault };
+    ghost from_gives = { λ fault r. r ≡ stop_of_device fault };
 
-    fn from(fault: ScreenFault) -> Stop {
+    fn from(fault: DeviceFault) -> Stop {
         match fault {
-            ScreenFault::Write => Stop::Unwritten,
-            ScreenFault::Memory => Stop::Memory,
-        }
-    }
-}
-
-impl From<ReadFault> for Stop {
-    ghost use Rattle.ptb_machine.specs.Stops.{stop_of_read};
-
-    ghost from_gives = { λ fault r. r ≡ stop_of_read fault };
-
-    fn from(fault: ReadFault) -> Stop {
-        match fault {
-            ReadFault::Read | ReadFault::TooLong => Stop::Unread,
-            ReadFault::Memory => Stop::Memory,
+            DeviceFault::Read | DeviceFault::TooLong => Stop::Unread,
+            DeviceFault::Write => Stop::Unwritten,
+            DeviceFault::Memory => Stop::Memory,
         }
     }
 }

@@ -1,7 +1,8 @@
 // This file tests how lines are cleaned, and how a list of them is taken.
 
 use crate::shared::expect_same;
-use ptb_devices::{Line, LineSource, Lines, ReadFault};
+use ptb_devices::{Line, LineSource, Lines};
+use ptb_text::DeviceFault;
 use std::alloc::{AllocError, Global};
 use std::process::Abort;
 use std::test::Fail;
@@ -48,7 +49,7 @@ fn room_for_printable_bytes(rt: HostRuntime) -> Result<(), Fail> {
 }
 
 // How many lines are left of a source.
-fn rest<L: LineSource>(rt: &impl Abort, source: &mut L) -> Result<usize, ReadFault> {
+fn rest<L: LineSource>(rt: &impl Abort, source: &mut L) -> Result<usize, DeviceFault> {
     let mut count: usize = 0;
     while source.next()?.is_some() {
         count = count.saturating_add(1);
@@ -72,7 +73,7 @@ fn expect_next(rt: &impl Abort, lines: &mut Lines<'_>, want: Option<&[u8]>) {
 }
 
 // One line is taken, and then what is left.
-fn expect_all_taken(rt: &impl Abort, all: &[Line]) -> Result<(), ReadFault> {
+fn expect_all_taken(rt: &impl Abort, all: &[Line]) -> Result<(), DeviceFault> {
     let mut lines = Lines::new(all);
     let at_first = lines.taken();
     expect_next(rt, &mut lines, Some(b"one"));

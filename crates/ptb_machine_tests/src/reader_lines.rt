@@ -1,8 +1,8 @@
 // This file tests how lines are read when they are asked for, to the end or a fault.
 
 use crate::shared::{Long, expect_same, scripted};
-use ptb_devices::{LineSource, ReadFault, ReaderLines};
-use ptb_text::{Device, Read};
+use ptb_devices::{LineSource, ReaderLines};
+use ptb_text::{Device, DeviceFault, Read};
 use std::process::Abort;
 
 // Each input, and its lines.
@@ -103,7 +103,7 @@ fn long_lines_at_hand(rt: HostRuntime) {
 }
 
 // How long the next line is, if there is one.
-fn next_length<R: Read>(source: &mut ReaderLines<'_, R>) -> Result<Option<usize>, ReadFault> {
+fn next_length<R: Read>(source: &mut ReaderLines<'_, R>) -> Result<Option<usize>, DeviceFault> {
     Ok(source.next()?.map(|line| line.len()))
 }
 
@@ -149,7 +149,7 @@ fn reads_when_asked(rt: HostRuntime) {
 }
 
 // So many lines come, and then a fault, or the end, twice.
-fn expect_end<R: Read>(rt: &impl Abort, reader: &mut R, lines: usize, fault: Option<ReadFault>) {
+fn expect_end<R: Read>(rt: &impl Abort, reader: &mut R, lines: usize, fault: Option<DeviceFault>) {
     let mut source = ReaderLines::new(reader);
     for _ in 0..lines {
         let is_line = source.next().is_ok_and(|line| line.is_some());
@@ -183,7 +183,7 @@ fn faults_again(rt: HostRuntime) {
             &rt,
             &mut Device::new(&mut script),
             lines,
-            Some(ReadFault::Read),
+            Some(DeviceFault::Read),
         );
         expect_same(&rt, "calls", script.calls, calls);
     }
@@ -191,13 +191,13 @@ fn faults_again(rt: HostRuntime) {
 
 // How long an input is, where its newline is, how many lines of it come, the fault after them,
 // and how many bytes are taken.
-const LENGTHS: &[(usize, usize, usize, Option<ReadFault>, usize)] = &[
+const LENGTHS: &[(usize, usize, usize, Option<DeviceFault>, usize)] = &[
     (16_777_216, 2, 2, None, 16_777_216),
     (usize::MAX, 16_777_215, 1, TOO_LONG, 16_777_217),
     (usize::MAX, 16_777_216, 0, TOO_LONG, 16_777_217),
 ];
 
-const TOO_LONG: Option<ReadFault> = Some(ReadFault::TooLong);
+const TOO_LONG: Option<DeviceFault> = Some(DeviceFault::TooLong);
 
 // The lines that are whole within the limit come first, the last of them with its newline.
 #[test]

@@ -1,8 +1,8 @@
 // This file tests screens over writers that take little and fail, and the screen in memory.
 
 use crate::shared::expect_same;
-use ptb_devices::{Screen, ScreenFault, TextScreen, WriterScreen};
-use ptb_text::{ByteSink, Device};
+use ptb_devices::{Screen, TextScreen, WriterScreen};
+use ptb_text::{ByteSink, Device, DeviceFault};
 use std::io;
 use std::io::ErrorKind;
 use std::process::Abort;
@@ -30,16 +30,16 @@ impl<'a> ByteSink for Frail<'a> {
     }
 }
 
-fn put_twice<S: Screen>(screen: &mut S) -> Result<(), ScreenFault> {
+fn put_twice<S: Screen>(screen: &mut S) -> Result<(), DeviceFault> {
     screen.put(b"1234567")?;
     screen.put(b"89")
 }
 
 // How many calls the writer takes, whether all bytes are shown, and which it takes.
-const WRITERS: &[(usize, Result<(), ScreenFault>, &[u8])] = &[
-    (0, Err(ScreenFault::Write), b""),
-    (1, Err(ScreenFault::Write), b"12345"),
-    (2, Err(ScreenFault::Write), b"1234567"),
+const WRITERS: &[(usize, Result<(), DeviceFault>, &[u8])] = &[
+    (0, Err(DeviceFault::Write), b""),
+    (1, Err(DeviceFault::Write), b"12345"),
+    (2, Err(DeviceFault::Write), b"1234567"),
     (3, Ok(()), b"123456789"),
 ];
 

@@ -1,8 +1,8 @@
 // This file tests how a whole input is read: in pieces, to a fault, and without an end.
 
 use crate::shared::{Long, expect_same, scripted};
-use ptb_devices::{Line, ReadFault, read_lines};
-use ptb_text::Device;
+use ptb_devices::{Line, read_lines};
+use ptb_text::{Device, DeviceFault};
 use std::alloc::Global;
 use std::process::Abort;
 use std::test::Fail;
@@ -71,15 +71,15 @@ fn failing_readers(rt: HostRuntime) {
     for bytes in [&b""[..], b"5", b"5\n", b"5\n7"] {
         let mut reader = Device::new(scripted(bytes, 1, true));
         let fault = read_lines(rt.alloc(), &mut reader).err();
-        expect_same(&rt, "fault", fault, Some(ReadFault::Read));
+        expect_same(&rt, "fault", fault, Some(DeviceFault::Read));
     }
 }
 
 // How long an input is, the fault that results, and how many bytes are taken.
-const LENGTHS: &[(usize, Option<ReadFault>, usize)] = &[
+const LENGTHS: &[(usize, Option<DeviceFault>, usize)] = &[
     (16_777_216, None, 16_777_216),
-    (16_777_217, Some(ReadFault::TooLong), 16_777_217),
-    (usize::MAX, Some(ReadFault::TooLong), 16_777_217),
+    (16_777_217, Some(DeviceFault::TooLong), 16_777_217),
+    (usize::MAX, Some(DeviceFault::TooLong), 16_777_217),
 ];
 
 #[test]

@@ -6,7 +6,8 @@ use Rattle.std.specs.Result.{IsErrAnd}
 use Rattle.std.proofs.lemmas.Result.{err_from_is_err_and}
 use Rattle.ptb_text.specs.Device.{HasFailed}
 use Rattle.ptb_text.specs.Statements.{StoredProgram}
-use Rattle.ptb_text.specs.declared.device.DeviceFault.{DeviceFault}
+use Rattle.ptb_text.specs.declared.device_fault.DeviceFault.{DeviceFault}
+use Rattle.ptb_text.specs.declared.device_fault.DeviceFault.TheVariants as devices
 use Rattle.ptb_check.specs.Mistakes.{mistakes}
 use Rattle.ptb_check.specs.WrittenMistakes.{WritesMistakes}
 use Rattle.ptb_machine.specs.declared.fault.RunFault.TheVariants as faults
@@ -16,6 +17,7 @@ use Rattle.ptb_serve.specs.declared.note.Note.{Note}
 use Rattle.ptb_serve.specs.declared.note.Note.TheVariants as notes
 use Rattle.ptb_serve.specs.Loaded.{RefusesListIn, ServesProgram, TellsFailures}
 use Rattle.ptb_serve.specs.Replies.{check_reply, check_status}
+use Rattle.ptb_serve.specs.ServedRequests.{device_note}
 use Rattle.ptb_serve.proofs.Mismatches.{run_refuses_none, success_refuses_none}
 use Rattle.ptb_serve.proofs.Served.{nothing_told, serves_loaded}
 
@@ -72,11 +74,11 @@ module _ (p : StoredProgram) (old new : Option (List ℕ)) (broke breaks : ℕ) 
     no_list = success_refuses_none n;
   }
 
-  pub check_broken : (result : Result ℕ Note) (fault : DeviceFault) → IsErrAnd result (λ note. note ≡ notes.Unwritten)
-      → WritesMistakes (mistakes p.lines) old new (Err fault) → HasFailed broke breaks → IsChecked result
-  check_broken result fault noted written has_failed =
+  pub check_broken : (result : Result ℕ Note) (fault : DeviceFault) → IsErrAnd result (λ note. note ≡ device_note fault)
+      → fault ≡ devices.Write → WritesMistakes (mistakes p.lines) old new (Err fault) → HasFailed broke breaks → IsChecked result
+  check_broken result fault noted kind written has_failed =
       let e = err_from_is_err_and result noted in
-      subst IsChecked (sym (e.1 ∙ ap Err e.2))
+      subst IsChecked (sym (e.1 ∙ ap Err (e.2 ∙ ap device_note kind)))
       (record {
         serves = λ request memory known. mistakes_unwritten request p memory old new known fault written;
         read = λ x. absurd cc;

@@ -13,8 +13,9 @@ use Rattle.ptb_text.specs.Lines.{input_lines}
 use Rattle.ptb_text.specs.Loading.{IsLoaded}
 use Rattle.ptb_text.specs.Statements.{StoredProgram}
 use Rattle.ptb_answers.specs.Outcome.{Answers, Outcome}
-use Rattle.ptb_devices.specs.declared.fault.ReadFault.{ReadFault}
-use Rattle.ptb_devices.specs.declared.fault.ReadFault.TheVariants as reads
+use Rattle.ptb_text.specs.declared.device_fault.DeviceFault.{DeviceFault}
+use Rattle.ptb_text.specs.declared.device_fault.DeviceFault.TheVariants as reads
+use Rattle.ptb_devices.specs.Sources.{IsSourceFault}
 use Rattle.ptb_devices.specs.Sources.{ConsumesAtMost}
 use Rattle.ptb_machine.specs.Effects.{Begins}
 use Rattle.ptb_answers.specs.declared.rules.Rules.{Rules}
@@ -38,7 +39,7 @@ use Rattle.ptb_machine.specs.PlainRuns.{IsUnreadable, input_limit}
 use Rattle.ptb_serve.specs.Replies.{Reply, refusal, success, answers_under, first_front, front_note}
 use Rattle.ptb_serve.specs.Replies.{is_front, is_share, listed_runs, listing_reply, runs_reply}
 use Rattle.ptb_serve.specs.Replies.{all_reply, reply_in_mode}
-use Rattle.ptb_serve.specs.ServedRequests.{outcome_of, input_note, reports_note, IsPlainRun, IsUnloaded}
+use Rattle.ptb_serve.specs.ServedRequests.{outcome_of, device_note, reports_note, IsPlainRun, IsUnloaded}
 use Rattle.ptb_serve.specs.ServedRequests.{IsCheck, IsInput, ListsFewerOf, NeedsInput, NeedsWholeInput, ReadsForRun}
 use Rattle.ptb_serve.specs.ServedRequests.{Serves, ServesUnread, SilentBy, StopsForMemory}
 use Rattle.ptb_serve.proofs.Fronts.{note_is}
@@ -72,28 +73,32 @@ below_both beginning (a ∷ rest) list e some = let l = length-append beginning 
 -- ---- the notes
 
 -- of an input that isn't read, where a listing was to begin isn't noted
-pub input_note-start : (fault : ReadFault) → IsErrOf {T = ℕ} (Err (input_note fault)) notes.NoRun → ⊥
-input_note-start reads.Read h = absurd cc
-input_note-start reads.TooLong h = absurd cc
-input_note-start reads.Memory h = absurd cc
+pub device_note-start : (fault : DeviceFault) → IsErrOf {T = ℕ} (Err (device_note fault)) notes.NoRun → ⊥
+device_note-start reads.Read h = absurd cc
+device_note-start reads.TooLong h = absurd cc
+device_note-start reads.Write h = absurd cc
+device_note-start reads.Memory h = absurd cc
 
-pub input_note-beginning : (fault : ReadFault) → IsErrOf {T = ℕ} (Err (input_note fault)) notes.NoBeginning → ⊥
-input_note-beginning reads.Read h = absurd cc
-input_note-beginning reads.TooLong h = absurd cc
-input_note-beginning reads.Memory h = absurd cc
+pub device_note-beginning : (fault : DeviceFault) → IsErrOf {T = ℕ} (Err (device_note fault)) notes.NoBeginning → ⊥
+device_note-beginning reads.Read h = absurd cc
+device_note-beginning reads.TooLong h = absurd cc
+device_note-beginning reads.Write h = absurd cc
+device_note-beginning reads.Memory h = absurd cc
 
 -- the note has the fault that came
-pub input_note-read : {T : Type 0} (fault : ReadFault)
-    → (IsErrOf {T = ℕ} (Err (input_note fault)) notes.InputUnread → ⊥)
+pub device_note-read : {T : Type 0} (fault : DeviceFault)
+    → (IsErrOf {T = ℕ} (Err (device_note fault)) notes.InputUnread → ⊥)
     → IsErrOf {T = T} (Err fault) reads.Read → ⊥
-input_note-read reads.Read h e = h refl
-input_note-read reads.TooLong h e = absurd cc
-input_note-read reads.Memory h e = absurd cc
+device_note-read reads.Read h e = h refl
+device_note-read reads.TooLong h e = absurd cc
+device_note-read reads.Write h e = absurd cc
+device_note-read reads.Memory h e = absurd cc
 
-pub input_note-loaded : (fault : ReadFault) → IsUnloaded (Some (input_note fault)) → ⊥
-input_note-loaded reads.Read h = h
-input_note-loaded reads.TooLong h = h
-input_note-loaded reads.Memory h = h
+pub device_note-loaded : (fault : DeviceFault) → IsUnloaded (Some (device_note fault)) → ⊥
+device_note-loaded reads.Read h = h
+device_note-loaded reads.TooLong h = h
+device_note-loaded reads.Write h = h
+device_note-loaded reads.Memory h = h
 
 module _ (game : Answers → Outcome Finish (List ℕ)) (under after : Option (List Marked)) where
   pub front_note-loaded : (note : Note) → (note ≡ notes.OutOfMemory) ⊎ (front_note game under after ≡ Some note)
@@ -144,10 +149,12 @@ reports_note-write (explores.Memory m) h n e = absurd cc
 reports_note-write (explores.Write m) h n e = h refl
 
 -- nothing was written where the input isn't read
-pub input_note-written : (fault : ReadFault) → IsErrOf {T = ℕ} (Err (input_note fault)) notes.Unwritten → ⊥
-input_note-written reads.Read h = absurd cc
-input_note-written reads.TooLong h = absurd cc
-input_note-written reads.Memory h = absurd cc
+pub device_note-written : (fault : DeviceFault) → IsSourceFault fault
+    → IsErrOf {T = ℕ} (Err (device_note fault)) notes.Unwritten → ⊥
+device_note-written reads.Read kind h = absurd cc
+device_note-written reads.TooLong kind h = absurd cc
+device_note-written reads.Write kind h = absurd kind
+device_note-written reads.Memory kind h = absurd cc
 
 pub reports_note-read : (fault : ExploreFault) → IsErrOf {T = ℕ} (Err (reports_note fault)) notes.InputUnread → ⊥
 reports_note-read (explores.Memory n) h = absurd cc
@@ -352,38 +359,39 @@ module _ (mode : Mode) (plain : IsPlainRun mode → ⊥) (needs : NeedsInput mod
   }
 
   -- where they are not
-  module _ {T : Type 0} (fault : ReadFault) (read : IsErrOf {T = T} (Err fault) reads.Read
-      → HasFailed failed fails) where
-    unread_lines : (fault : ReadFault) → (IsErrOf {T = T} (Err fault) reads.Read → HasFailed failed fails)
+  module _ {T : Type 0} (fault : DeviceFault) (read : IsErrOf {T = T} (Err fault) reads.Read → HasFailed failed fails) where
+    unread_lines : (fault : DeviceFault) → (IsErrOf {T = T} (Err fault) reads.Read → HasFailed failed fails)
         → (IsErrOf {T = T} (Err fault) reads.TooLong → IfSome i (λ c. input_limit < length c))
-        → IsErrOf {T = ℕ} (Err (input_note fault)) notes.InputUnread → IsUnreadable i failed fails
+        → IsErrOf {T = ℕ} (Err (device_note fault)) notes.InputUnread → IsUnreadable i failed fails
     unread_lines reads.Read read long x = inl (read refl)
     unread_lines reads.TooLong read long x = inr (long refl)
+    unread_lines reads.Write read long x = absurd cc
     unread_lines reads.Memory read long x = absurd cc
 
-    told_lines : (fault : ReadFault) → (IsErrOf {T = T} (Err fault) reads.Read → HasFailed failed fails)
+    told_lines : (fault : DeviceFault) → (IsErrOf {T = T} (Err fault) reads.Read → HasFailed failed fails)
         → (IsErrOf {T = T} (Err fault) reads.TooLong → GivesExactly gave gives (input_limit + 1))
-        → IsErrOf {T = ℕ} (Err (input_note fault)) notes.InputUnread
+        → IsErrOf {T = ℕ} (Err (device_note fault)) notes.InputUnread
         → HasFailed failed fails ⊎ GivesExactly gave gives (input_limit + 1)
     told_lines reads.Read read long x = inl (read refl)
     told_lines reads.TooLong read long x = inr (long refl)
+    told_lines reads.Write read long x = absurd cc
     told_lines reads.Memory read long x = absurd cc
 
     pub whole_unread : (IsErrOf {T = T} (Err fault) reads.TooLong → IfSome i (λ c. input_limit < length c))
         → (IsErrOf {T = T} (Err fault) reads.TooLong → GivesExactly gave gives (input_limit + 1))
         → ((IsErrOf {T = T} (Err fault) reads.Read → ⊥) → fails ≡ failed)
         → ConsumesAtMost i j (input_limit + 1) → GivesAtMost gave gives (input_limit + 1)
-        → ReadsInput mode i j failed fails gave gives (Err (input_note fault))
+        → ReadsInput mode i j failed fails gave gives (Err (device_note fault))
     whole_unread long exactly unfailed bounded given = record {
       within = λ _. tt;
       taken_within = λ x. absurd (plain x);
-      no_beginning_within = λ x. absurd (input_note-beginning fault x);
-      no_run_within = λ x. absurd (input_note-start fault x);
+      no_beginning_within = λ x. absurd (device_note-beginning fault x);
+      no_run_within = λ x. absurd (device_note-start fault x);
       bounded = bounded;
       given = given;
       unread = unread_lines fault read long;
       failed_or_given = told_lines fault read exactly;
-      read = λ x. unfailed (input_note-read fault x);
+      read = λ x. unfailed (device_note-read fault x);
       unneeded = λ x. absurd (x needs);
     }
 

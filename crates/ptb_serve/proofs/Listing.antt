@@ -6,7 +6,8 @@ use Rattle.std.specs.Result.{IsErrAnd}
 use Rattle.std.proofs.KnownBytes.{Appends-nil}
 use Rattle.ptb_text.specs.Lines.{input_lines}
 use Rattle.ptb_text.specs.Statements.{StoredProgram}
-use Rattle.ptb_devices.specs.declared.fault.ReadFault.{ReadFault}
+use Rattle.ptb_text.specs.declared.device_fault.DeviceFault.{DeviceFault}
+use Rattle.ptb_devices.specs.Sources.{IsSourceFault}
 use Rattle.ptb_machine.specs.Play.{play}
 use Rattle.ptb_answers.specs.declared.form.Form.{Form}
 use Rattle.ptb_answers.specs.declared.form.Marked.{Marked}
@@ -26,7 +27,7 @@ use Rattle.ptb_serve.specs.declared.list_mismatch.ListMismatch.TheVariants.{Unde
 use Rattle.ptb_serve.specs.ListMismatches.{IsUnbegun, mismatch_note, unbegun_attempt}
 use Rattle.ptb_serve.specs.Loaded.{IsServedOn, ServesProgram, TellsFailures}
 use Rattle.ptb_serve.specs.Replies.{answers_under, first_front, front_note}
-use Rattle.ptb_serve.specs.ServedRequests.{ListsFewerOf, input_note, reports_note}
+use Rattle.ptb_serve.specs.ServedRequests.{ListsFewerOf, device_note, reports_note}
 use Rattle.ptb_serve.proofs.Listed.{front_note-loaded, front_note-other, front_note-silent, lists_fewer}
 use Rattle.ptb_serve.proofs.Listed.{runs_due, serves_front, serves_mode, serves_reports, serves_some}
 use Rattle.ptb_serve.proofs.Served.{at_known, lists_loaded, nothing_told, serves_loaded}
@@ -54,12 +55,12 @@ module _ (request : Request) (p : StoredProgram) (memory : p.memory ≡ request.
         due.quiet due.success due.loaded
 
     -- by the writer, which got nothing
-    pub unread_listed : (held : Option (List ℕ)) (fault : ReadFault)
-        → ServesProgram listing request p i j held held (Err (input_note fault))
-    unread_listed held fault =
-        listing_serves held held (Err (input_note fault))
+    pub unread_listed : (held : Option (List ℕ)) (fault : DeviceFault) → IsSourceFault fault
+        → ServesProgram listing request p i j held held (Err (device_note fault))
+    unread_listed held fault kind =
+        listing_serves held held (Err (device_note fault))
         (unread_due listing (λ c. runs_due request.rules under after first form c p) (Fewer held held) i held
-        (Appends-nil held) tt fault)
+        (Appends-nil held) tt fault kind)
 
     module _ (input : List (List ℕ)) (lines : IfSome i (λ c. input ≡ input_lines c)) where
       unbegun_listed : (held : Option (List ℕ)) (note : Note)

@@ -26,9 +26,9 @@ use Rattle.ptb_serve.specs.Loaded.{IsRunStatus, RefusesListIn, TellsMismatch}
 use Rattle.ptb_serve.specs.ListMismatches.{IsMismatchIn, IsMismatchOf, IsListRefused, IsUnbegun}
 use Rattle.ptb_serve.specs.ListMismatches.{mismatch_note, refused_attempt, unbegun_attempt}
 use Rattle.ptb_serve.specs.Replies.{program_of_text}
-use Rattle.ptb_serve.specs.ServedRequests.{input_note, outcome_of, reports_note}
-use Rattle.ptb_devices.specs.declared.fault.ReadFault.{ReadFault}
-use Rattle.ptb_serve.proofs.Listed.{input_note-beginning, input_note-start}
+use Rattle.ptb_serve.specs.ServedRequests.{device_note, outcome_of, reports_note}
+use Rattle.ptb_text.specs.declared.device_fault.DeviceFault.{DeviceFault}
+use Rattle.ptb_serve.proofs.Listed.{device_note-beginning, device_note-start}
 use Rattle.ptb_serve.proofs.Served.{at_known, outcome_of-err, outcome_of-note, program_of_text-ok}
 
 -- nothing is said where no list is refused
@@ -66,11 +66,11 @@ memory_refuses_none (inl x) = cc
 memory_refuses_none (inr x) = cc
 
 -- and with an input that can't be read
-pub unread_refuses_none : (note : Note) (fault : ReadFault) → note ≡ input_note fault → RefusesListIn (Err note) → ⊥
+pub unread_refuses_none : (note : Note) (fault : DeviceFault) → note ≡ device_note fault → RefusesListIn (Err note) → ⊥
 unread_refuses_none note fault is (inl x) =
-    input_note-beginning fault (subst (λ (n : Note). IsErrOf {T = ℕ} (Err n) notes.NoBeginning) is x)
+    device_note-beginning fault (subst (λ (n : Note). IsErrOf {T = ℕ} (Err n) notes.NoBeginning) is x)
 unread_refuses_none note fault is (inr x) =
-    input_note-start fault (subst (λ (n : Note). IsErrOf {T = ℕ} (Err n) notes.NoRun) is x)
+    device_note-start fault (subst (λ (n : Note). IsErrOf {T = ℕ} (Err n) notes.NoRun) is x)
 
 -- what holds of a mismatch, if there is one, gives something else that does
 pub if_mismatch : (P Q : ListMismatch → Type 0) (o : Option ListMismatch) → ((m : ListMismatch) → P m → Q m)

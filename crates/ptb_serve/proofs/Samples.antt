@@ -10,7 +10,8 @@ use Rattle.ptb_text.specs.Lines.{input_lines}
 use Rattle.ptb_text.specs.Statements.{StoredProgram}
 use Rattle.ptb_answers.specs.Outcome.{Answers}
 use Rattle.ptb_answers.specs.declared.form.Form.{Form}
-use Rattle.ptb_devices.specs.declared.fault.ReadFault.{ReadFault}
+use Rattle.ptb_text.specs.declared.device_fault.DeviceFault.{DeviceFault}
+use Rattle.ptb_devices.specs.Sources.{IsSourceFault}
 use Rattle.ptb_machine.specs.Play.{play}
 use Rattle.ptb_machine.specs.Questions.{most_answers}
 use Rattle.ptb_explore.specs.declared.fault.ExploreFault.{ExploreFault}
@@ -26,7 +27,7 @@ use Rattle.ptb_serve.specs.declared.note.Note.{Note}
 use Rattle.ptb_serve.specs.declared.note.Note.TheVariants as notes
 use Rattle.ptb_serve.specs.Loaded.{IsServedOn, ServesProgram}
 use Rattle.ptb_serve.specs.Replies.{Reply, runs_drawn, sample_reply}
-use Rattle.ptb_serve.specs.ServedRequests.{SamplesFewerOf, Serves, input_note, outcome_of, reports_note}
+use Rattle.ptb_serve.specs.ServedRequests.{SamplesFewerOf, Serves, device_note, outcome_of, reports_note}
 use Rattle.ptb_serve.proofs.Listed.{below_both, serves_mode, text-beginning, text-into}
 use Rattle.ptb_serve.proofs.Served.{nothing_told, samples_loaded, serves_loaded}
 use Rattle.ptb_serve.proofs.WholeInput.{IsDue, TellsWriter, all_due, all_written, at_lines, cut_due, cut_silent}
@@ -88,11 +89,11 @@ module _ (request : Request) (p : StoredProgram) (memory : p.memory ≡ request.
         due.quiet due.success due.loaded
 
     -- the lines can't be read
-    pub unread_sampled : (held : Option (List ℕ)) (fault : ReadFault)
-        → ServesProgram sample request p i j held held (Err (input_note fault))
-    unread_sampled held fault =
-        sample_serves held held (Err (input_note fault))
-        (unread_due sample reply (Fewer held held) i held (Appends-nil held) tt fault)
+    pub unread_sampled : (held : Option (List ℕ)) (fault : DeviceFault) → IsSourceFault fault
+        → ServesProgram sample request p i j held held (Err (device_note fault))
+    unread_sampled held fault kind =
+        sample_serves held held (Err (device_note fault))
+        (unread_due sample reply (Fewer held held) i held (Appends-nil held) tt fault kind)
 
   -- they were read, and are `input`
   module _ (input : List (List ℕ)) (old new : Option (List ℕ)) (broke breaks : ℕ) where

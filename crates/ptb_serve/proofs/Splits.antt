@@ -13,7 +13,8 @@ use Rattle.ptb_text.specs.Statements.{StoredProgram}
 use Rattle.ptb_answers.specs.Outcome.{Answers}
 use Rattle.ptb_answers.specs.declared.form.Form.{Form}
 use Rattle.ptb_answers.specs.declared.rules.Rules.{Rules}
-use Rattle.ptb_devices.specs.declared.fault.ReadFault.{ReadFault}
+use Rattle.ptb_text.specs.declared.device_fault.DeviceFault.{DeviceFault}
+use Rattle.ptb_devices.specs.Sources.{IsSourceFault}
 use Rattle.ptb_machine.specs.Play.{play}
 use Rattle.ptb_machine.specs.declared.fault.RunFault.TheVariants as faults
 use Rattle.ptb_explore.specs.declared.fault.ExploreFault.{ExploreFault}
@@ -29,7 +30,7 @@ use Rattle.ptb_serve.specs.declared.note.Note.{Note}
 use Rattle.ptb_serve.specs.declared.note.Note.TheVariants as notes
 use Rattle.ptb_serve.specs.Loaded.{IsServedOn, ServesProgram}
 use Rattle.ptb_serve.specs.Replies.{Reply, shares_reply}
-use Rattle.ptb_serve.specs.ServedRequests.{SplitsFewerOf, Serves, input_note, outcome_of, reports_note}
+use Rattle.ptb_serve.specs.ServedRequests.{SplitsFewerOf, Serves, device_note, outcome_of, reports_note}
 use Rattle.ptb_serve.proofs.Listed.{below_both, serves_mode, text-beginning, text-into}
 use Rattle.ptb_serve.proofs.Mismatches.{run_refuses_none}
 use Rattle.ptb_serve.proofs.Served.{nothing_told, splits_loaded, serves_loaded, takes_nothing}
@@ -118,11 +119,11 @@ module _ (request : Request) (p : StoredProgram) (memory : p.memory ≡ request.
         due.quiet due.success due.loaded
 
     -- the lines can't be read
-    pub unread_split : (held : Option (List ℕ)) (fault : ReadFault)
-        → ServesProgram shares request p i j held held (Err (input_note fault))
-    unread_split held fault =
-        shares_serve held held (Err (input_note fault))
-        (unread_due shares reply (Fewer held held) i held (Appends-nil held) tt fault)
+    pub unread_split : (held : Option (List ℕ)) (fault : DeviceFault) → IsSourceFault fault
+        → ServesProgram shares request p i j held held (Err (device_note fault))
+    unread_split held fault kind =
+        shares_serve held held (Err (device_note fault))
+        (unread_due shares reply (Fewer held held) i held (Appends-nil held) tt fault kind)
 
   -- a search continued from its front, and is dropped
   module _ (input : List (List ℕ)) (s : Splitting) (f : Front) (same : s ≡ record {

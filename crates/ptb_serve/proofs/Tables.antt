@@ -8,20 +8,21 @@ use Rattle.std.proofs.KnownBytes.{Appends-nil}
 use Rattle.ptb_text.specs.Device.{HasFailed, TakesSome}
 use Rattle.ptb_text.specs.Lines.{input_lines}
 use Rattle.ptb_text.specs.Statements.{StoredProgram}
-use Rattle.ptb_devices.specs.declared.fault.ReadFault.{ReadFault}
+use Rattle.ptb_text.specs.declared.device_fault.DeviceFault.{DeviceFault}
+use Rattle.ptb_devices.specs.Screens.{IsScreenFault}
+use Rattle.ptb_devices.specs.Sources.{IsSourceFault}
 use Rattle.ptb_machine.specs.Play.{play}
 use Rattle.ptb_machine.specs.Questions.{most_answers}
 use Rattle.ptb_machine.specs.declared.fault.RunFault.TheVariants as faults
 use Rattle.ptb_explore.specs.Chances.{chances}
-use Rattle.ptb_devices.specs.declared.fault.ScreenFault.{ScreenFault}
-use Rattle.ptb_devices.specs.declared.fault.ScreenFault.TheVariants as tables
+use Rattle.ptb_text.specs.declared.device_fault.DeviceFault.TheVariants as tables
 use Rattle.ptb_options.specs.declared.request.Mode.TheVariants as modes
 use Rattle.ptb_options.specs.declared.request.Request.{Request}
 use Rattle.ptb_serve.specs.declared.note.Note.{Note}
 use Rattle.ptb_serve.specs.declared.note.Note.TheVariants as notes
 use Rattle.ptb_serve.specs.Loaded.{IsServedOn, ServesProgram}
 use Rattle.ptb_serve.specs.Replies.{Reply, chances_reply}
-use Rattle.ptb_serve.specs.ServedRequests.{IsUnloaded, Serves, SilentBy, chances_note, input_note, outcome_of}
+use Rattle.ptb_serve.specs.ServedRequests.{IsUnloaded, Serves, SilentBy, device_note, outcome_of}
 use Rattle.ptb_serve.proofs.Listed.{serves_mode}
 use Rattle.ptb_serve.proofs.Mismatches.{run_refuses_none}
 use Rattle.ptb_serve.proofs.Served.{nothing_told, serves_loaded, takes_nothing}
@@ -46,11 +47,11 @@ module _ (request : Request) (p : StoredProgram) (memory : p.memory ≡ request.
         new result l memory (due.served c is))
         (λ b. nothing_told i) (λ b. due.unread) (λ b c _ _ _. tt) due.quiet due.success due.loaded
 
-    pub unread_table : (held : Option (List ℕ)) (fault : ReadFault)
-        → ServesProgram modes.Chances request p i j held held (Err (input_note fault))
-    unread_table held fault =
-        table_serves held held (Err (input_note fault))
-        (unread_due modes.Chances reply (λ c. Unit {0}) i held (Appends-nil held) (Appends-nil held) fault)
+    pub unread_table : (held : Option (List ℕ)) (fault : DeviceFault) → IsSourceFault fault
+        → ServesProgram modes.Chances request p i j held held (Err (device_note fault))
+    unread_table held fault kind =
+        table_serves held held (Err (device_note fault))
+        (unread_due modes.Chances reply (λ c. Unit {0}) i held (Appends-nil held) (Appends-nil held) fault kind)
 
     module _ (input : List (List ℕ)) (lines : IfSome i (λ c. input ≡ input_lines c)) (old new : Option (List ℕ)) where
       on_lines : (result : Result ℕ Note) → Serves (chances_reply p input request.rules) old new (outcome_of result)
@@ -95,38 +96,42 @@ module _ (request : Request) (p : StoredProgram) (memory : p.memory ≡ request.
         all_written modes.Chances request p input (record { before = old; after = new; failed = broke; fails = breaks })
         (λ i j lines. table_written i j input lines old new all)
 
-    broken_by : {T : Type 0} (fault : ScreenFault) → (IsErrOf {T = T} (Err fault) tables.Memory → new ≡ old)
+    broken_by : {T : Type 0} (fault : DeviceFault) → IsScreenFault fault
+        → (IsErrOf {T = T} (Err fault) tables.Memory → new ≡ old)
         → (IsErrOf {T = T} (Err fault) tables.Write → TakesSome old new (due input))
         → (IsErrOf {T = T} (Err fault) tables.Write → HasFailed broke breaks)
         → ((IsErrOf {T = T} (Err fault) tables.Write → ⊥) → breaks ≡ broke)
         → IsServedOn modes.Chances request p input
-        (record { before = old; after = new; failed = broke; fails = breaks }) (Err (chances_note fault))
-    broken_by tables.Memory kept some failed unfailed = record {
+        (record { before = old; after = new; failed = broke; fails = breaks }) (Err (device_note fault))
+    broken_by tables.Memory kind kept some failed unfailed = record {
       serves = λ known left lines. table_refused known left input lines old new (kept refl);
       read = λ x. absurd cc;
       failures = record { unwritten = λ x. absurd cc; written = λ _. unfailed (λ x. absurd cc) };
       no_list = run_refuses_none (Err faults.Memory) (Err notes.OutOfMemory) refl;
     }
-    broken_by tables.Write kept some failed unfailed = record {
+    broken_by tables.Write kind kept some failed unfailed = record {
       serves = λ known left lines. table_cut known left input lines old new (some refl);
       read = λ x. absurd cc;
       failures = record { unwritten = λ _. failed refl; written = λ x. absurd (x refl) };
       no_list = run_refuses_none (Err faults.Write) (Err notes.Unwritten) refl;
     }
+    broken_by tables.Read kind kept some failed unfailed = absurd kind
+    broken_by tables.TooLong kind kept some failed unfailed = absurd kind
 
-    pub chances_broken : {T : Type 0} (result : Result ℕ Note) (fault : ScreenFault)
-        → IsErrAnd result (λ m. m ≡ chances_note fault)
+    pub chances_broken : {T : Type 0} (result : Result ℕ Note) (fault : DeviceFault)
+        → IsErrAnd result (λ m. m ≡ device_note fault)
+        → IsScreenFault fault
         → (IsErrOf {T = T} (Err fault) tables.Memory → new ≡ old)
         → (IsErrOf {T = T} (Err fault) tables.Write → TakesSome old new (due input))
         → (IsErrOf {T = T} (Err fault) tables.Write → HasFailed broke breaks)
         → ((IsErrOf {T = T} (Err fault) tables.Write → ⊥) → breaks ≡ broke)
         → IsServedOn modes.Chances request p input
         (record { before = old; after = new; failed = broke; fails = breaks }) result
-    chances_broken {T = T} result fault is kept some failed unfailed =
+    chances_broken {T = T} result fault is kind kept some failed unfailed =
         subst (IsServedOn modes.Chances request p input (record {
           before = old;
           after = new;
           failed = broke;
           fails = breaks;
-        })) (sym (gives_err result (chances_note fault) is))
-        (broken_by {T = T} fault kept some failed unfailed)
+        })) (sym (gives_err result (device_note fault) is))
+        (broken_by {T = T} fault kind kept some failed unfailed)

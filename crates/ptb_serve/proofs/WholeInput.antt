@@ -10,8 +10,9 @@ use Rattle.ptb_text.specs.Device.{HasFailed}
 use Rattle.ptb_text.specs.Lines.{input_lines}
 use Rattle.ptb_text.specs.Statements.{StoredProgram}
 use Rattle.ptb_text.specs.Streams.{Reads, ReadsUpTo, Writes}
-use Rattle.ptb_devices.specs.declared.fault.ReadFault.{ReadFault}
-use Rattle.ptb_devices.specs.declared.fault.ReadFault.TheVariants as reads
+use Rattle.ptb_text.specs.declared.device_fault.DeviceFault.{DeviceFault}
+use Rattle.ptb_text.specs.declared.device_fault.DeviceFault.TheVariants as reads
+use Rattle.ptb_devices.specs.Sources.{IsSourceFault}
 use Rattle.ptb_explore.specs.declared.fault.ExploreFault.{ExploreFault}
 use Rattle.ptb_explore.specs.declared.fault.ExploreFault.TheVariants as explores
 use Rattle.ptb_options.specs.declared.request.Mode.{Mode}
@@ -22,8 +23,8 @@ use Rattle.ptb_serve.specs.declared.note.Note.TheVariants as notes
 use Rattle.ptb_serve.specs.Loaded.{IsServed, IsServedOn, ReadsInput, ServesProgram}
 use Rattle.ptb_serve.specs.Replies.{Reply}
 use Rattle.ptb_serve.specs.ServedRequests.{IsPlainRun, IsUnloaded, NeedsInput, Serves, SilentBy}
-use Rattle.ptb_serve.specs.ServedRequests.{input_note, outcome_of, reports_note}
-use Rattle.ptb_serve.proofs.Listed.{input_note-loaded, input_note-written, reports_note-failed}
+use Rattle.ptb_serve.specs.ServedRequests.{device_note, outcome_of, reports_note}
+use Rattle.ptb_serve.proofs.Listed.{device_note-loaded, device_note-written, reports_note-failed}
 use Rattle.ptb_serve.proofs.Listed.{reports_note-loaded, reports_note-read, reports_note-write}
 use Rattle.ptb_serve.proofs.Listed.{whole_reads, whole_unread}
 use Rattle.ptb_serve.proofs.Mismatches.{reports_refuse_none, success_refuses_none, unread_refuses_none}
@@ -58,18 +59,20 @@ at_lines P input i lines h c is = subst P (at_known (λ d. input ≡ input_lines
 
 -- ---- the writer, where the lines can't be read
 
-pub unread_serves : (reply : Reply) (held : Option (List ℕ)) (fault : ReadFault)
-    → Serves reply held held (outcome_of (Err (input_note fault)))
+pub unread_serves : (reply : Reply) (held : Option (List ℕ)) (fault : DeviceFault)
+    → Serves reply held held (outcome_of (Err (device_note fault)))
 unread_serves reply held reads.Read = takes_nothing held _
 unread_serves reply held reads.TooLong = takes_nothing held _
+unread_serves reply held reads.Write = takes_nothing held _
 unread_serves reply held reads.Memory = takes_nothing held _
 
 unread_silent : (mode : Mode) (held : Option (List ℕ)) → SilentBy mode (Some notes.InputUnread) held held
-    → SilentBy mode (Some notes.OutOfMemory) held held → (fault : ReadFault)
-    → SilentBy mode (Some (input_note fault)) held held
-unread_silent mode held unread refused reads.Read = unread
-unread_silent mode held unread refused reads.TooLong = unread
-unread_silent mode held unread refused reads.Memory = refused
+    → SilentBy mode (Some notes.OutOfMemory) held held → (fault : DeviceFault) → IsSourceFault fault
+    → SilentBy mode (Some (device_note fault)) held held
+unread_silent mode held unread refused reads.Read kind = unread
+unread_silent mode held unread refused reads.TooLong kind = unread
+unread_silent mode held unread refused reads.Write kind = absurd kind
+unread_silent mode held unread refused reads.Memory kind = refused
 
 pub cut_silent : (mode : Mode) (old new : Option (List ℕ)) → SilentBy mode (Some notes.OutOfMemory) old new
     → SilentBy mode (Some notes.Unwritten) old new → (fault : ExploreFault)
@@ -90,15 +93,15 @@ pub record IsDue (mode : Mode) (reply : List ℕ → Reply) (Fewer : List ℕ
 
 module _ (mode : Mode) (reply : List ℕ → Reply) (Fewer : List ℕ → Type 0) (i : Option (List ℕ)) where
   pub unread_due : (held : Option (List ℕ)) → SilentBy mode (Some notes.InputUnread) held held
-      → SilentBy mode (Some notes.OutOfMemory) held held → (fault : ReadFault)
-      → IsDue mode reply Fewer i held held (Err (input_note fault))
-  unread_due held unread refused fault = record {
+      → SilentBy mode (Some notes.OutOfMemory) held held → (fault : DeviceFault) → IsSourceFault fault
+      → IsDue mode reply Fewer i held held (Err (device_note fault))
+  unread_due held unread refused fault kind = record {
     served = λ c _. unread_serves (reply c) held fault;
-    quiet = unread_silent mode held unread refused fault;
+    quiet = unread_silent mode held unread refused fault kind;
     stopped = λ _ _ _. inl (Appends-nil held);
     unread = λ _. Appends-nil held;
     success = tt;
-    loaded = input_note-loaded fault;
+    loaded = device_note-loaded fault;
   }
 
   pub all_due : (old new : Option (List ℕ)) → ((c : List ℕ) → i ≡ Some c → Serves (reply c) old new (outcome_of (Ok 0)))
@@ -137,13 +140,13 @@ TellsWriter T fault broke breaks =
 module _ (mode : Mode) (request : Request) (p : StoredProgram) where
   -- where the lines can't be read, the writer gets nothing
   pub unread_served : (IsPlainRun mode → ⊥) → NeedsInput mode → {R T complete : Type 0} {input : Reads R}
-      (held : Option (List ℕ)) (broke : ℕ) (note : Note) (fault : ReadFault)
-      → ((known left : Option (List ℕ)) → ServesProgram mode request p known left held held (Err (input_note fault)))
-      → note ≡ input_note fault
+      (held : Option (List ℕ)) (broke : ℕ) (note : Note) (fault : DeviceFault) → IsSourceFault fault
+      → ((known left : Option (List ℕ)) → ServesProgram mode request p known left held held (Err (device_note fault)))
+      → note ≡ device_note fault
       → ReadsUpTo input_limit input complete (IsErrOf {T = T} (Err fault) reads.TooLong)
       (IsErrOf {T = T} (Err fault) reads.Read)
       → IsServed mode request p input (record { before = held; after = held; failed = broke; fails = broke }) (Err note)
-  unread_served plain needs {T = T} {input = i} held broke note fault serves is r =
+  unread_served plain needs {T = T} {input = i} held broke note fault kind serves is r =
       subst (λ (n : Note). IsServed mode request p i
       (record { before = held; after = held; failed = broke; fails = broke }) (Err n)) (sym is)
       (record {
@@ -151,8 +154,8 @@ module _ (mode : Mode) (request : Request) (p : StoredProgram) where
         reads = whole_unread mode plain needs i.bytes i.left i.failed i.fails i.gave i.gives
             {T = T} fault r.has_failed r.longer
             r.given_longer r.unfailed r.consumed r.given;
-        failures = record { unwritten = λ x. absurd (input_note-written fault x); written = λ _. refl };
-        no_list = unread_refuses_none (input_note fault) fault refl;
+        failures = record { unwritten = λ x. absurd (device_note-written fault kind x); written = λ _. refl };
+        no_list = unread_refuses_none (device_note fault) fault refl;
       })
 
   -- the lines were read

@@ -1,9 +1,8 @@
 -- This file defines how a request is served: its reply is given, or it is broken off and the outcome notes why.
 --     outcome_of result                 the outcome of a status or a note
 --     load_note e                       the note of a program that is not loaded
---     input_note e                      the note of an input that is not read
+--     device_note e                     the note of a device that fails
 --     reports_note e                    the note of reports that are not all written
---     chances_note e                    the note of a table of chances that is not written
 --     Serves reply old new outcome      the reply is given, or it is broken off
 --     IsUnloaded note                   the program was not read, or its text is refused
 --     TellsRefusal memory known note    a text is noted as refused as it is refused, where it is known
@@ -29,8 +28,8 @@ use Rattle.ptb_text.specs.declared.fault.LoadFault.TheVariants as loads
 use Rattle.ptb_text.specs.Device.{GivesExactly, TakesSome}
 use Rattle.ptb_text.specs.Lines.{input_lines}
 use Rattle.ptb_text.specs.Statements.{StoredProgram, program_limit}
-use Rattle.ptb_devices.specs.declared.fault.ReadFault.{ReadFault}
-use Rattle.ptb_devices.specs.declared.fault.ReadFault.TheVariants as reads
+use Rattle.ptb_text.specs.declared.device_fault.DeviceFault.{DeviceFault}
+use Rattle.ptb_text.specs.declared.device_fault.DeviceFault.TheVariants as devices
 use Rattle.ptb_machine.specs.declared.ending.Ending.TheVariants as endings
 use Rattle.ptb_answers.specs.Outcome.{Answers}
 use Rattle.ptb_answers.specs.declared.rules.Rules.{Rules}
@@ -43,8 +42,6 @@ use Rattle.ptb_explore.specs.Listing.{text}
 use Rattle.ptb_explore.specs.Report.{report}
 use Rattle.ptb_explore.specs.declared.fault.ExploreFault.{ExploreFault}
 use Rattle.ptb_explore.specs.declared.fault.ExploreFault.TheVariants as explores
-use Rattle.ptb_devices.specs.declared.fault.ScreenFault.{ScreenFault}
-use Rattle.ptb_devices.specs.declared.fault.ScreenFault.TheVariants as tables
 use Rattle.ptb_serve.specs.declared.note.Note.{Note}
 use Rattle.ptb_serve.specs.declared.note.Note.TheVariants as notes
 use Rattle.ptb_options.specs.declared.request.Mode.{Mode}
@@ -73,18 +70,15 @@ load_fault_note line fault = notes.Load line fault
 abbrev pub load_note : ℕ × LoadFault → Note
 load_note e = load_fault_note e.0 e.1
 
-abbrev pub input_note : ReadFault → Note
-input_note reads.Read = notes.InputUnread
-input_note reads.TooLong = notes.InputUnread
-input_note reads.Memory = notes.OutOfMemory
+abbrev pub device_note : DeviceFault → Note
+device_note devices.Read = notes.InputUnread
+device_note devices.TooLong = notes.InputUnread
+device_note devices.Write = notes.Unwritten
+device_note devices.Memory = notes.OutOfMemory
 
 abbrev pub reports_note : ExploreFault → Note
 reports_note (explores.Memory n) = notes.OutOfMemory
 reports_note (explores.Write n) = notes.Unwritten
-
-abbrev pub chances_note : ScreenFault → Note
-chances_note tables.Memory = notes.OutOfMemory
-chances_note tables.Write = notes.Unwritten
 
 -- ---- how a request is served
 

@@ -1,13 +1,12 @@
 // This file has the lines that go to standard error, and the status that each goes with.
 
 ghost use Rattle.std.specs.Prelude.{◌≡◌};
-ghost use Rattle.ptb_serve.specs.declared.note.Note.TheVariants.{OutOfMemory, Unwritten};
+ghost use Rattle.ptb_serve.specs.declared.note.Note.TheVariants.{OutOfMemory};
 ghost use Rattle.ptb_serve.specs.Messages.{note_line};
-ghost use Rattle.ptb_serve.specs.ServedRequests.{chances_note, input_note, load_note, reports_note};
+ghost use Rattle.ptb_serve.specs.ServedRequests.{device_note, load_note, reports_note};
 ghost use Rattle.ptb_serve.specs.Statuses.{note_status};
 
 use ptb_explore::ExploreFault;
-use ptb_machine::{ReadFault, ScreenFault};
 use ptb_text::{DeviceFault, LoadFault};
 use std::alloc::AllocError;
 use std::fmt;
@@ -59,20 +58,13 @@ impl From<(u32, LoadFault)> for Note {
 }
 
 impl From<DeviceFault> for Note {
-    ghost from_gives = { λ _ note. note ≡ Unwritten };
+    ghost from_gives = { λ fault note. note ≡ device_note fault };
 
-    fn from(_fault: DeviceFault) -> Note {
-        Note::Unwritten
-    }
-}
-
-impl From<ReadFault> for Note {
-    ghost from_gives = { λ fault note. note ≡ input_note fault };
-
-    fn from(fault: ReadFault) -> Note {
+    fn from(fault: DeviceFault) -> Note {
         match fault {
-            ReadFault::Read | ReadFault::TooLong => Note::InputUnread,
-            ReadFault::Memory => Note::OutOfMemory,
+            DeviceFault::Read | DeviceFault::TooLong => Note::InputUnread,
+            DeviceFault::Write => Note::Unwritten,
+            DeviceFault::Memory => Note::OutOfMemory,
         }
     }
 }
@@ -92,17 +84,6 @@ impl From<ExploreFault> for Note {
         match fault {
             ExploreFault::Memory(_) => Note::OutOfMemory,
             ExploreFault::Write(_) => Note::Unwritten,
-        }
-    }
-}
-
-impl From<ScreenFault> for Note {
-    ghost from_gives = { λ fault note. note ≡ chances_note fault };
-
-    fn from(fault: ScreenFault) -> Note {
-        match fault {
-            ScreenFault::Memory => Note::OutOfMemory,
-            ScreenFault::Write => Note::Unwritten,
         }
     }
 }

@@ -174,7 +174,7 @@ fn serve_program<R: Read, W: Write + Watch>(
         }
         Mode::List => match list(program, out) {
             Ok(()) => Attempt::without_mismatch(Ok(0)),
-            Err(fault) => Attempt::without_mismatch(Err(Note::from(fault))),
+            Err(_) => Attempt::without_mismatch(Err(Note::Unwritten)),
         },
         Mode::Check => Attempt::without_mismatch(list_mistakes(program, out)),
         Mode::Chances => Attempt::without_mismatch(list_table(alloc, request, program, input, out)),

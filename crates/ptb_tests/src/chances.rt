@@ -2,8 +2,8 @@
 
 use crate::shared::{OUT_OF_MEMORY, expect_same, loaded};
 use ptb_chances::{Unwatched, chances_text, write_chances};
-use ptb_machine::{Rules, ScreenFault};
-use ptb_text::Device;
+use ptb_machine::Rules;
+use ptb_text::{Device, DeviceFault};
 use std::alloc::Global;
 use std::process::Abort;
 use std::test::Fail;
@@ -133,7 +133,7 @@ fn roll_in_two(
     program: &Program,
     lines: &[Line],
     room: &mut [u8],
-) -> Result<(), ScreenFault> {
+) -> Result<(), DeviceFault> {
     let rules = Rules {
         limit: 10000,
         choose: None,
@@ -150,7 +150,7 @@ fn expect_prefix(
     room: &mut [u8],
 ) {
     let due = if room.len() < ROLL_IN_TWO_TABLE.len() {
-        Err(ScreenFault::Write)
+        Err(DeviceFault::Write)
     } else {
         Ok(())
     };
@@ -183,10 +183,10 @@ fn refused_tables_write_nothing(rt: HostRuntime) -> Result<(), Fail> {
     let mut room = [b'.'; 63];
     match roll_in_two(rt.alloc(), &program, &lines, &mut room[..]) {
         Ok(()) => expect_same(&rt, "written", &room[..], ROLL_IN_TWO_TABLE.as_bytes()),
-        Err(ScreenFault::Memory) => {
+        Err(DeviceFault::Memory) => {
             expect_same(&rt, "nothing", room.iter().all(|b| *b == b'.'), true);
         }
-        Err(ScreenFault::Write) => return Err(Fail::from("not written")),
+        Err(DeviceFault::Write) => return Err(Fail::from("not written")),
     }
     Ok(())
 }

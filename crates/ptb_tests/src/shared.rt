@@ -1,8 +1,8 @@
 // This file has what several of the tests use: rules, answers, programs, and values that must be the same.
 
 use ptb_explore::{Asked, Marked};
-use ptb_machine::{Line, ReadFault, Rules, read_lines};
-use ptb_text::{Device, LoadFault, Program, load};
+use ptb_machine::{Line, Rules, read_lines};
+use ptb_text::{Device, DeviceFault, LoadFault, Program, load};
 use std::alloc::Global;
 use std::fmt::Debug;
 use std::process::Abort;
@@ -126,7 +126,7 @@ pub(crate) fn loaded(
     };
     match read_lines(alloc, &mut Device::new(&mut input)) {
         Ok(lines) => Ok((program, lines)),
-        Err(ReadFault::Memory) => Err(OUT_OF_MEMORY),
+        Err(DeviceFault::Memory) => Err(OUT_OF_MEMORY),
         Err(_) => Err("no input"),
     }
 }

@@ -6,7 +6,7 @@ use Rattle.std.proofs.Common.{subst, append_assoc, append-nil, arith, length-app
 use Rattle.std.proofs.Common.{length-take}
 use Rattle.std.proofs.Math.Seq.{take-append-add}
 use Rattle.std.proofs.lemmas.List.{take-append-drop, take-append-le, take_all}
-use Rattle.std.specs.Result.{IsErrAnd}
+use Rattle.std.specs.Result.{IfErr, IsErrAnd}
 use Rattle.std.specs.Io.KnownBytes.{Appends}
 use Rattle.std.proofs.KnownBytes.{Appends-trans}
 use Rattle.ptb_text.specs.Device.{Gathers, TakesSome}
@@ -99,3 +99,8 @@ OnOk-error Q P (Err e) is = tt
 pub OnErr-error : {T E : Type 0} (Q : E → Type 0) (P : Type 0) (r : Result T E) → IsErrAnd r Q → P → OnErr r P
 OnErr-error Q P (Ok x) is p = absurd is
 OnErr-error Q P (Err e) is p = p
+
+-- a fault that is passed on keeps its kind
+pub IfErr-passed : {T E : Type 0} (Q : E → Type 0) (r : Result T E) (e : E) → IsErrAnd r (λ y. y ≡ e) → Q e → IfErr r Q
+IfErr-passed Q (Ok x) e is q = absurd is
+IfErr-passed Q (Err y) e is q = subst Q (sym is) q

@@ -2,19 +2,14 @@
 // bytes, too.
 
 ghost use Rattle.std.specs.Prelude.{◌≡◌, ℕ, ◌<◌, ◌≤◌, List, length, take, Option, Some, IfOk, OnOk};
-ghost use Rattle.std.specs.Prelude.{◌-◌, IsOk, OnErr};
+ghost use Rattle.std.specs.Prelude.{◌-◌, IfErr, IsOk, OnErr};
 ghost use Rattle.std.specs.Io.KnownBytes.{Keeps, Appends, ReadConsumes};
 ghost use Rattle.ptb_text.specs.Device.{CountsFaults, HasFailed, TakesSome, TakesSurely};
 ghost use Rattle.ptb_text.specs.Device.{CountsBytes, DeviceTakes, IsReliableDevice};
 ghost use Rattle.ptb_text.specs.Device.{device_inner, failure_count, given_count};
 
 use crate::byte_streams::{ByteSink, ByteSource};
-use thiserror::Error;
-
-/// A read or a write failed.
-#[derive(Clone, Copy, Debug, PartialEq, Eq, Error)]
-#[error("the device failed")]
-pub struct DeviceFault;
+use crate::device_fault::DeviceFault;
 
 /// What gives bytes.
 ///
@@ -42,12 +37,13 @@ pub trait Read {
     ///
     /// # Errors
     ///
-    /// [`DeviceFault`] where the reader failed. No byte was given then.
+    /// [`DeviceFault::Read`] where the reader failed. No byte was given then.
     fn read(&mut self, buf: &mut [u8]) -> Result<usize, DeviceFault>
         ensures room { IfOk result (λ n. n ≤ length buf.old) }
         ensures bytes { ReadConsumes (remaining self.old) (remaining self.new) result buf.new }
         ensures given { CountsBytes (given self.old) (given self.new) result }
         ensures count { CountsFaults (failures self.old) (failures self.new) result }
+        ensures kind { IfErr result (λ fault. fault ≡ DeviceFault.Read) }
         ensures sure { reliable self.old → IsOk result × reliable self.new };
 }
 
@@ -68,7 +64,7 @@ pub trait Write {
     ///
     /// # Errors
     ///
-    /// [`DeviceFault`] where the writer failed. A prefix of the bytes may have been taken then.
+    /// [`DeviceFault::Write`] where the writer failed. A prefix of the bytes may have been taken then.
     fn write(&mut self, bytes: &[u8]) -> Result<usize, DeviceFault>
         ensures room { IfOk result (λ n. n ≤ length bytes.now) }
         ensures some { IfOk result (λ n. 0 < length bytes.now → 0 < n) }
@@ -76,18 +72,20 @@ pub trait Write {
             (λ n. Appends (contents self.old) (contents self.new) (take n bytes.now)) }
         ensures fault { OnErr result (TakesSome (contents self.old) (contents self.new) bytes.now) }
         ensures count { CountsFaults (failures self.old) (failures self.new) result }
+        ensures kind { IfErr result (λ fault. fault ≡ DeviceFault.Write) }
         ensures sure { TakesSurely (takes self.old) (takes self.new) bytes.now result };
 
     /// Takes all of `bytes`, in as many writes as it needs; none if there are no bytes.
     ///
     /// # Errors
     ///
-    /// [`DeviceFault`] where one of the writes failed. A prefix of the bytes may have been taken
+    /// [`DeviceFault::Write`] where one of the writes failed. A prefix of the bytes may have been taken
     /// then.
     final fn write_all(&mut self, bytes: &[u8]) -> Result<(), DeviceFault>
         ensures ok { OnOk result (Appends (contents self.old) (contents self.new) bytes.now) }
         ensures fault { OnErr result (TakesSome (contents self.old) (contents self.new) bytes.now) }
         ensures failed { OnErr result (HasFailed (failures self.old) (failures self.new)) }
+        ensures kind { IfErr result (λ fault. fault ≡ DeviceFault.Write) }
         ensures unfailed { OnOk result (failures self.new ≡ failures self.old) }
         ensures later { failures self.old ≤ failures self.new }
         ensures sure { (k : ℕ) → length bytes.now ≤ k → takes self.old k
@@ -135,21 +133,22 @@ impl<T: ByteSink> Device<T> {
     ///
     /// # Errors
     ///
-    /// [`DeviceFault`] where the writer failed.
+    /// [`DeviceFault::Write`] where the writer failed.
     pub fn flush(&mut self) -> Result<(), DeviceFault>
         ensures bytes { Keeps (T.contents (device_inner self.old))
             (T.contents (device_inner self.new)) }
         ensures count { CountsFaults (failure_count self.old) (failure_count self.new) result }
+        ensures kind { IfErr result (λ fault. fault ≡ DeviceFault.Write) }
         ensures given { given_count self.new ≡ given_count self.old }
         ensures sure { (k : ℕ) → DeviceTakes T.takes self.old k
             → IsOk result × DeviceTakes T.takes self.new k }
     {
         if self.failures == u64::MAX {
-            return Err(DeviceFault);
+            return Err(DeviceFault::Write);
         }
         if self.inner.flush().is_err() {
             self.failures += 1;
-            return Err(DeviceFault);
+            return Err(DeviceFault::Write);
         }
         Ok(())
     }
@@ -166,7 +165,7 @@ impl<T: ByteSource> Read for Device<T> {
 
     fn read(&mut self, buf: &mut [u8]) -> Result<usize, DeviceFault> {
         if self.failures == u64::MAX {
-            return Err(DeviceFault);
+            return Err(DeviceFault::Read);
         }
         match self.inner.read(buf) {
             Ok(n) => {
@@ -175,7 +174,7 @@ impl<T: ByteSource> Read for Device<T> {
             }
             Err(_) => {
                 self.failures += 1;
-                Err(DeviceFault)
+                Err(DeviceFault::Read)
             }
         }
     }
@@ -190,13 +189,13 @@ impl<T: ByteSink> Write for Device<T> {
 
     fn write(&mut self, bytes: &[u8]) -> Result<usize, DeviceFault> {
         if self.failures == u64::MAX {
-            return Err(DeviceFault);
+            return Err(DeviceFault::Write);
         }
         match self.inner.write(bytes) {
             Ok(n) if n > 0 || bytes.is_empty() => Ok(n),
             _ => {
                 self.failures += 1;
-                Err(DeviceFault)
+                Err(DeviceFault::Write)
             }
         }
     }

@@ -1,6 +1,6 @@
 // This file writes a program as text.
 
-ghost use Rattle.std.specs.Prelude.{◌≡◌, ◌≤◌, ℕ, [], IsTrue, OnErr, OnOk};
+ghost use Rattle.std.specs.Prelude.{◌≡◌, ◌≤◌, ℕ, [], IfErr, IsTrue, OnErr, OnOk};
 ghost use Rattle.std.specs.Io.KnownBytes.{Appends};
 ghost use Rattle.ptb_text.specs.Device.{HasFailed, TakesSome};
 ghost use Rattle.ptb_text.specs.Loading.{GivesProgram};
@@ -19,13 +19,14 @@ const LINE_ROOM: usize = 262;
 ///
 /// # Errors
 ///
-/// [`DeviceFault`] where the writer failed. A beginning of the listing was written then.
+/// [`DeviceFault::Write`] where the writer failed. A beginning of the listing was written then.
 pub fn list<W: Write>(program: &Program, writer: &mut W) -> Result<(), DeviceFault>
     ensures ok { OnOk result
         (Appends (W.contents writer.old) (W.contents writer.new) (listing program.now.lines)) }
     ensures fault { OnErr result
         (TakesSome (W.contents writer.old) (W.contents writer.new) (listing program.now.lines)) }
     ensures failed { OnErr result (HasFailed (W.failures writer.old) (W.failures writer.new)) }
+    ensures kind { IfErr result (λ fault. fault ≡ DeviceFault.Write) }
     ensures unfailed { OnOk result (W.failures writer.new ≡ W.failures writer.old) }
     ensures reloads { (memory : ℕ) (q : Statements) → IsTrue (is_program q) → cost q ≤ memory
         → GivesProgram memory (listing q) q }
@@ -51,6 +52,7 @@ fn write_line<W: Write>(
     ensures fault { OnErr result
         (TakesSome (W.contents writer.old) (W.contents writer.new) (line_of (number, text.now))) }
     ensures failed { OnErr result (HasFailed (W.failures writer.old) (W.failures writer.new)) }
+    ensures kind { IfErr result (λ fault. fault ≡ DeviceFault.Write) }
     ensures unfailed { OnOk result (W.failures writer.new ≡ W.failures writer.old) }
     ensures empty { OnOk result (line.new ≡ []) }
 {

@@ -1,7 +1,7 @@
 // This file has the buffer that gathers bytes before they are written.
 
 ghost use Rattle.std.specs.Prelude.{◌≡◌, ◌↔◌, ◌+◌, ◌≤◌, ◌++◌, List, ℕ, [], length, IsFalse, IsTrue};
-ghost use Rattle.std.specs.Prelude.{OnErr, OnOk};
+ghost use Rattle.std.specs.Prelude.{IfErr, OnErr, OnOk};
 ghost use Rattle.std.specs.Io.KnownBytes.{Appends};
 ghost use Rattle.std.specs.List.{flat_map};
 ghost use Rattle.ptb_text.specs.Device.{Gathers, HasFailed, TakesSome};
@@ -41,13 +41,14 @@ impl<const N: usize> OutputBuffer<N> {
     ///
     /// # Errors
     ///
-    /// [`DeviceFault`] where the writer failed.
+    /// [`DeviceFault::Write`] where the writer failed.
     pub fn put<W: Write>(&mut self, writer: &mut W, bytes: &[u8]) -> Result<(), DeviceFault>
         ensures ok { OnOk result (Gathers (W.contents writer.old) (W.contents writer.new)
             (self.old ++ bytes.now) self.new) }
         ensures fault { OnErr result (TakesSome (W.contents writer.old) (W.contents writer.new)
             (self.old ++ bytes.now)) }
         ensures failed { OnErr result (HasFailed (W.failures writer.old) (W.failures writer.new)) }
+        ensures kind { IfErr result (λ fault. fault ≡ DeviceFault.Write) }
         ensures unfailed { OnOk result (W.failures writer.new ≡ W.failures writer.old) }
         ensures waits { length self.old + length bytes.now ≤ N
             → self.new ≡ self.old ++ bytes.now }
@@ -67,7 +68,7 @@ impl<const N: usize> OutputBuffer<N> {
     ///
     /// # Errors
     ///
-    /// [`DeviceFault`] where the writer failed.
+    /// [`DeviceFault::Write`] where the writer failed.
     #[inline(always)]
     pub fn put_all<W: Write>(&mut self, writer: &mut W, pieces: &[&[u8]]) -> Result<(), DeviceFault>
         ensures ok { OnOk result (Gathers (W.contents writer.old) (W.contents writer.new)
@@ -75,6 +76,7 @@ impl<const N: usize> OutputBuffer<N> {
         ensures fault { OnErr result (TakesSome (W.contents writer.old) (W.contents writer.new)
             (self.old ++ flat_map (λ p. p.now) pieces.now)) }
         ensures failed { OnErr result (HasFailed (W.failures writer.old) (W.failures writer.new)) }
+        ensures kind { IfErr result (λ fault. fault ≡ DeviceFault.Write) }
         ensures unfailed { OnOk result (W.failures writer.new ≡ W.failures writer.old) }
     {
         for piece in pieces {
@@ -87,7 +89,7 @@ impl<const N: usize> OutputBuffer<N> {
     ///
     /// # Errors
     ///
-    /// [`DeviceFault`] where the writer failed.
+    /// [`DeviceFault::Write`] where the writer failed.
     // inlined, as is `put_all`: called, they cost the writer of reports registers in its usual case
     #[inline(always)]
     pub fn finish<W: Write>(&mut self, writer: &mut W, pieces: &[&[u8]]) -> Result<(), DeviceFault>
@@ -96,6 +98,7 @@ impl<const N: usize> OutputBuffer<N> {
         ensures fault { OnErr result (TakesSome (W.contents writer.old) (W.contents writer.new)
             (self.old ++ flat_map (λ p. p.now) pieces.now)) }
         ensures failed { OnErr result (HasFailed (W.failures writer.old) (W.failures writer.new)) }
+        ensures kind { IfErr result (λ fault. fault ≡ DeviceFault.Write) }
         ensures unfailed { OnOk result (W.failures writer.new ≡ W.failures writer.old) }
         ensures empty { OnOk result (self.new ≡ []) }
     {
@@ -110,6 +113,7 @@ impl<const N: usize> OutputBuffer<N> {
         ensures fault { OnErr result
             (TakesSome (W.contents writer.old) (W.contents writer.new) self.old) }
         ensures failed { OnErr result (HasFailed (W.failures writer.old) (W.failures writer.new)) }
+        ensures kind { IfErr result (λ fault. fault ≡ DeviceFault.Write) }
         ensures unfailed { OnOk result (W.failures writer.new ≡ W.failures writer.old) }
         ensures empty { OnOk result (self.new ≡ []) }
     {

@@ -5,8 +5,12 @@ use Rattle.std.specs.Io.KnownBytes.{IsAtEnd}
 use Rattle.ptb_text.specs.Streams.{reads_of}
 use Rattle.ptb_text.proofs.ByteCounts.{IsCountedUpTo, IsCountedUpTo_more}
 use Rattle.ptb_devices.specs.CutLines.{AddsLines}
+use Rattle.ptb_text.specs.declared.device_fault.DeviceFault.TheVariants as faults
+use Rattle.ptb_text.proofs.TakenPieces.{IfErr-passed}
+use Rattle.ptb_devices.specs.Sources.{IsSourceFault}
 use Rattle.ptb_devices.proofs.ReadLines.{IsReadUpTo_more, no_piece}
-use Rattle.ptb_devices.proofs.WholeInputs.{told_all, told_failed, told_long, told_wanting, too_many, wants_memory}
+use Rattle.ptb_devices.proofs.WholeInputs.{told_all, told_failed, told_long, told_wanting}
+use Rattle.ptb_devices.proofs.WholeInputs.{same_fault, too_many, wants_memory}
 use Rattle.ptb_devices.proofs.whole_input.read_lines.Goals as goal
 
 never_fails : false ≡ true → ⊥
@@ -44,6 +48,7 @@ loop-left-init g c = search rules fits 50 depth 2
 
 pub returns-in_err-count : goal.returns-in_err-count
 returns-in_err-count g c =
+    let read = same_fault c.from_residual.result _ faults.Read c.from_residual.ensures.1 c.in_err-count.ensures.kind in
     let told =
     told_failed (λ v. v.items) 16777216 (reads_of g.R.Read.remaining g.R.Read.given g.R.Read.failures c.args.reader.now
     c.read.new.self) (g.R.Read.remaining c.loop-left.reader) (g.R.Read.failures c.loop-left.reader)
@@ -51,13 +56,14 @@ returns-in_err-count g c =
     c.loop-left.lines.items c.loop-left.cutter c.loop-left.left c.loop-left.invariant.unfailed
     c.loop-left.invariant.read c.loop-left.invariant.given c.loop-left.invariant.room
     c.in_err-count.ensures.bytes c.in_err-count.ensures.count c.in_err-count.ensures.given c.from_residual.result
-    c.from_residual.ensures.1
+    read
     in
     record {
       lines = told.lines;
       reads = told.reads;
-      sure = λ reliable. absurd
-          (never_fails (c.in_err-count.ensures.sure (c.loop-left.invariant.sure reliable)).0);
+      kind = IfErr-passed IsSourceFault c.from_residual.result faults.Read read tt;
+      sure = λ reliable.
+          absurd (never_fails (c.in_err-count.ensures.sure (c.loop-left.invariant.sure reliable)).0);
     }
 
 pub returns-in_err-push_last : goal.returns-in_err-push_last
@@ -77,8 +83,10 @@ returns-in_err-push_last g c =
     record {
       lines = told.lines;
       reads = told.reads;
-      sure = λ _. wants_memory c.from_residual-in_err-push_last.result
-          c.from_residual-in_err-push_last.ensures.1;
+      kind = IfErr-passed IsSourceFault c.from_residual-in_err-push_last.result faults.Memory
+          c.from_residual-in_err-push_last.ensures.1 tt;
+      sure = λ _. wants_memory
+          c.from_residual-in_err-push_last.result c.from_residual-in_err-push_last.ensures.1;
     }
 
 pub returns-then-count-eq0 : goal.returns-then-count-eq0
@@ -99,7 +107,7 @@ returns-then-count-eq0 g c =
     c.in_ok-count.ensures.count c.in_ok-count.ensures.given (omega (arith, c.if-count-eq0.true)) c.if-count-eq0.true
     size c.loop-left-test.true end c.push_last.new.lines c.in_ok-push_last.ensures
     in
-    record { lines = told.lines; reads = told.reads; sure = λ _ h. absurd cc }
+    record { lines = told.lines; reads = told.reads; kind = tt; sure = λ _ h. absurd cc }
 
 pub returns-in_err-push_whole : goal.returns-in_err-push_whole
 returns-in_err-push_whole g c =
@@ -120,8 +128,10 @@ returns-in_err-push_whole g c =
     record {
       lines = told.lines;
       reads = told.reads;
-      sure = λ _. wants_memory c.from_residual-in_err-push_whole.result
-          c.from_residual-in_err-push_whole.ensures.1;
+      kind = IfErr-passed IsSourceFault c.from_residual-in_err-push_whole.result faults.Memory
+          c.from_residual-in_err-push_whole.ensures.1 tt;
+      sure = λ _. wants_memory
+          c.from_residual-in_err-push_whole.result c.from_residual-in_err-push_whole.ensures.1;
     }
 
 pub returns : goal.returns
@@ -132,4 +142,4 @@ returns g c =
     c.loop-left.lines.items c.loop-left.cutter c.loop-left.left c.loop-left.invariant.unfailed
     c.loop-left.invariant.read c.loop-left.invariant.given c.loop-left.invariant.room c.loop-left-test.false
     in
-    record { lines = told.lines; reads = told.reads; sure = λ _. too_many }
+    record { lines = told.lines; reads = told.reads; kind = tt; sure = λ _. too_many }

@@ -1,10 +1,11 @@
 -- This file answers that the lines that are written are those of the lists that were left, in their order.
-use Rattle.std.proofs.Common.{rules, ◌∙◌, ap, refl, Err}
+use Rattle.std.proofs.Common.{rules, ◌∙◌, []}
+use Rattle.ptb_explore.specs.Beginnings.{beginning_line, split_play}
 use Rattle.ptb_explore.proofs.Exits.{ok_no_err}
 use Rattle.ptb_explore.proofs.WrittenTexts.{failed_after}
-use Rattle.ptb_explore.proofs.WrittenLines.{game_reads, line_begun, line_refused, no_line}
+use Rattle.ptb_explore.proofs.WrittenLines.{game_of, game_reads, line_ends, no_line}
 use Rattle.ptb_explore.proofs.WrittenLines.{one_line_fewer, one_line_more, same_search}
-use Rattle.ptb_explore.proofs.WrittenReports.{memory_no_write, memory_told}
+use Rattle.ptb_explore.proofs.WrittenReports.{ended_failed, ended_unfailed, next_kind}
 use Rattle.ptb_explore.proofs.beginnings.write_beginnings.Goals as goal
 
 pub loop-written-init : goal.loop-written-init
@@ -38,26 +39,19 @@ returns-in-Ok-false g c = record {
   unfailed = λ _. c.in-Ok-false.ensures.unfailed (λ fault. ok_no_err fault) ∙ c.loop-written.invariant.unfailed;
 }
 
-pub returns-in-Err-Memory : goal.returns-in-Err-Memory
-returns-in-Err-Memory g c = record {
-  same = same_search c.args.form c.args.beginnings.now c.loop-written.beginnings c.loop-written.invariant.same _
-      c.in-Err-Memory.ensures.same;
-  writes = line_refused c.args.form c.args.beginnings.now c.loop-written.beginnings c.loop-written.invariant.same
-      (game_reads c.run_laws.ensures c.args.beginnings.now) _ _ _ _ c.loop-written.invariant.progress
-      c.write_next_line.new.beginnings.front _ _ c.in-Err-Memory.field-0-is c.in-Err-Memory.ensures.writes;
-  failed = λ n fault. memory_told fault;
-  unfailed = λ _. c.in-Err-Memory.ensures.unfailed (λ fault. memory_no_write c.in-Err-Memory.field-0-is fault)
-      ∙ c.loop-written.invariant.unfailed;
-}
-
-pub returns-in-Err-Write : goal.returns-in-Err-Write
-returns-in-Err-Write g c = record {
-  same = same_search c.args.form c.args.beginnings.now c.loop-written.beginnings c.loop-written.invariant.same _
-      c.in-Err-Write.ensures.same;
-  writes = line_begun c.args.form c.args.beginnings.now c.loop-written.beginnings c.loop-written.invariant.same
-      (game_reads c.run_laws.ensures c.args.beginnings.now) _ _ _ _ c.loop-written.invariant.progress
-      c.write_next_line.new.beginnings.front _ _ c.in-Err-Write.field-0-is c.in-Err-Write.ensures.writes;
-  failed = λ n fault. failed_after _ _ _ c.loop-written.invariant.unfailed
-      (c.in-Err-Write.ensures.failed (ap Err c.in-Err-Write.field-0-is));
-  unfailed = λ none. absurd (none _ refl);
-}
+pub returns-in-Err : goal.returns-in-Err
+returns-in-Err g c =
+    let s = c.loop-written.beginnings in
+    let kind = next_kind (game_of s) [] (beginning_line c.args.form (split_play s)) s.front
+    c.write_next_line.new.beginnings.front (g.W.Write.contents c.loop-written.writer)
+    (g.W.Write.contents c.write_next_line.new.writer) c.in-Err.fault c.in-Err.ensures.writes in
+    rw c.after.ensures (record {
+      same = same_search c.args.form c.args.beginnings.now s c.loop-written.invariant.same _ c.in-Err.ensures.same;
+      writes = line_ends c.args.form c.args.beginnings.now s c.loop-written.invariant.same
+          (game_reads c.run_laws.ensures c.args.beginnings.now) _ _ _ _ c.loop-written.invariant.progress
+          c.write_next_line.new.beginnings.front _ c.in-Err.fault c.in-Err.ensures.writes;
+      failed = ended_failed c.in-Err.fault kind
+          (λ fault. failed_after _ _ _ c.loop-written.invariant.unfailed (c.in-Err.ensures.failed fault)) _;
+      unfailed = ended_unfailed c.in-Err.fault kind
+          (λ none. c.in-Err.ensures.unfailed none ∙ c.loop-written.invariant.unfailed) _;
+    })

@@ -1,11 +1,12 @@
 -- This file answers that the reports that are written are those of the runs that were left, in their order.
-use Rattle.std.proofs.Common.{rules, ◌∙◌, ap, refl, Err}
+use Rattle.std.proofs.Common.{rules, ◌∙◌}
 use Rattle.std.proofs.Math.Nat.{le_trans}
 use Rattle.ptb_explore.proofs.Exits.{ok_no_err}
 use Rattle.ptb_explore.proofs.WrittenTexts.{failed_after}
-use Rattle.ptb_explore.proofs.WrittenReports.{memory_no_write, memory_told, same_after, all_wanted}
-use Rattle.ptb_explore.proofs.WrittenReports.{none_next, list_refused, part_written, one_fewer}
-use Rattle.ptb_explore.proofs.WrittenReports.{one_more}
+use Rattle.ptb_explore.specs.Explorations.{play_of}
+use Rattle.ptb_explore.specs.Report.{report}
+use Rattle.ptb_explore.proofs.WrittenReports.{all_wanted, ended_failed, ended_unfailed, next_ends, next_kind}
+use Rattle.ptb_explore.proofs.WrittenReports.{none_next, one_fewer, one_more, same_after}
 use Rattle.ptb_explore.proofs.listing.write_all_runs.Goals as goal
 
 pub loop-form-init : goal.loop-form-init
@@ -44,35 +45,24 @@ returns-in-Ok-false g c = record {
   unfailed = λ _. c.in-Ok-false.ensures.unfailed (λ fault. ok_no_err fault) ∙ c.loop-form.invariant.unfailed;
 }
 
-pub returns-in-Err-Memory : goal.returns-in-Err-Memory
-returns-in-Err-Memory g c = record {
-  same = same_after c.args.form c.args.explorer.now c.loop-form.explorer c.loop-form.invariant.same _
-      c.in-Err-Memory.ensures.same;
-  rises = le_trans c.loop-form.invariant.rises c.in-Err-Memory.ensures.rises;
-  writes = list_refused c.args.form c.args.explorer.now c.loop-form.explorer c.loop-form.invariant.same
-      (c.run_laws.ensures.reads c.args.explorer.now.program c.args.explorer.now.input c.args.explorer.now.rules) _ _ _ _
-      _ c.loop-form.invariant.progress
-      c.write_next.new.explorer.front _ c.loop-form-test.ensures _ c.in-Err-Memory.field-0-is
-      c.in-Err-Memory.ensures.writes;
-  failed = λ n fault. memory_told fault;
-  unfailed = λ _. c.in-Err-Memory.ensures.unfailed (λ fault. memory_no_write c.in-Err-Memory.field-0-is fault)
-      ∙ c.loop-form.invariant.unfailed;
-}
-
-pub returns-in-Err-Write : goal.returns-in-Err-Write
-returns-in-Err-Write g c = record {
-  same = same_after c.args.form c.args.explorer.now c.loop-form.explorer c.loop-form.invariant.same _
-      c.in-Err-Write.ensures.same;
-  rises = le_trans c.loop-form.invariant.rises c.in-Err-Write.ensures.rises;
-  writes = part_written c.args.form c.args.explorer.now c.loop-form.explorer c.loop-form.invariant.same
-      (c.run_laws.ensures.reads c.args.explorer.now.program c.args.explorer.now.input c.args.explorer.now.rules) _ _ _ _
-      _ c.loop-form.invariant.progress
-      c.write_next.new.explorer.front _ c.loop-form-test.ensures _ c.in-Err-Write.field-0-is
-      c.in-Err-Write.ensures.writes;
-  failed = λ n fault. failed_after _ _ _ c.loop-form.invariant.unfailed
-      (c.in-Err-Write.ensures.failed (ap Err c.in-Err-Write.field-0-is));
-  unfailed = λ none. absurd (none _ refl);
-}
+pub returns-in-Err : goal.returns-in-Err
+returns-in-Err g c =
+    let e = c.loop-form.explorer in
+    let kind = next_kind (play_of e) e.under (report c.args.form (play_of e)) e.front c.write_next.new.explorer.front
+    (g.W.Write.contents c.loop-form.writer) (g.W.Write.contents c.write_next.new.writer) c.in-Err.fault
+    c.in-Err.ensures.writes in
+    rw c.after.ensures (record {
+      same = same_after c.args.form c.args.explorer.now e c.loop-form.invariant.same _ c.in-Err.ensures.same;
+      rises = le_trans c.loop-form.invariant.rises c.in-Err.ensures.rises;
+      writes = next_ends c.args.form c.args.explorer.now e c.loop-form.invariant.same
+          (c.run_laws.ensures.reads c.args.explorer.now.program c.args.explorer.now.input c.args.explorer.now.rules) _ _
+          _ _ _ c.loop-form.invariant.progress
+          c.write_next.new.explorer.front _ c.loop-form-test.ensures c.in-Err.fault c.in-Err.ensures.writes;
+      failed = ended_failed c.in-Err.fault kind
+          (λ fault. failed_after _ _ _ c.loop-form.invariant.unfailed (c.in-Err.ensures.failed fault)) _;
+      unfailed = ended_unfailed c.in-Err.fault kind
+          (λ none. c.in-Err.ensures.unfailed none ∙ c.loop-form.invariant.unfailed) _;
+    })
 
 pub returns : goal.returns
 returns g c = record {

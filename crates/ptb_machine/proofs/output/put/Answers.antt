@@ -8,7 +8,8 @@ pub returns-in_err-put : goal.returns-in_err-put
 returns-in_err-put g c d cells =
     shown_err _ _ _ _ _ c.from_residual.ensures.1
     (not_shown _ _ d _ cells _ c.in_err-put.ensures.fault c.in_err-put.ensures.later c.in_err-put.ensures.same_borrow
-    refl _ c.in_err-put.ensures.write c.in_err-put.ensures.unfailed c.in_err-put.ensures.memory)
+    refl _ c.in_err-put.ensures.kind c.in_err-put.ensures.write c.in_err-put.ensures.unfailed
+    c.in_err-put.ensures.memory)
 
 pub returns : goal.returns
 returns g c d cells =

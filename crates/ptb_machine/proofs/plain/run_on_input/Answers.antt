@@ -19,7 +19,7 @@ returns-in-Some g c =
     (λ e. c.input-1.given.1 (sym c.new-source.ensures.same_borrow ∙ sym e))
     c.new-screen.ensures.writer (λ e. c.out-1.given.1 (sym c.new-screen.ensures.same_borrow ∙ e))
     c.run_to_end-ended.ensures.run.runs c.run_to_end-ended.ensures.run.missed
-    c.in-Some.fault (sym c.fault.ensures ∙ c.in-Some.is) c.run_fault.result c.run_fault.ensures
+    c.in-Some.fault (sym c.fault.ensures ∙ c.in-Some.is) c.from.result c.from.ensures
     in
     record { plays = ran.plays; refused = ran.refused; memory = ran.memory; reads = ran.reads; line = λ _ _. tt }
 

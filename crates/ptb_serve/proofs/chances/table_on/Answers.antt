@@ -11,7 +11,7 @@ returns-in_err-write_chances g c =
     chances_broken c.args.request.now c.args.program.now c.requires.memory c.args.lines.now
     (g.W.Write.contents c.args.out.now) (g.W.Write.contents c.write_chances.new.writer)
     (g.W.Write.failures c.args.out.now) (g.W.Write.failures c.write_chances.new.writer)
-    c.from_residual.result c.in_err-write_chances.field-0.0 c.from_residual.ensures.1
+    c.from_residual.result c.in_err-write_chances.field-0.0 c.from_residual.ensures.1 writes.kind
     (λ h. ap g.W.Write.contents (writes.memory h)) writes.prefix writes.failed writes.unfailed
 
 -- it was written

@@ -9,7 +9,8 @@ returns-in_err-any g c =
     let told =
     check_broken c.args.program.now (g.W.Write.contents c.args.out.now) (g.W.Write.contents c.write_mistakes.new.writer)
     (g.W.Write.failures c.args.out.now) (g.W.Write.failures c.write_mistakes.new.writer) c.from_residual.result
-    c.in_err-any.field-0.0 c.from_residual.ensures.1 c.in_err-any.ensures.writes c.in_err-any.ensures.failed
+    c.in_err-any.field-0.0 c.from_residual.ensures.1 c.in_err-any.ensures.kind c.in_err-any.ensures.writes
+    c.in_err-any.ensures.failed
     in
     record { serves = told.serves; read = told.read; failures = told.failures; no_list = told.no_list }
 

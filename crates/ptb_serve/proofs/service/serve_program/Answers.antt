@@ -1,7 +1,8 @@
 -- This file answers how each mode serves a program that was loaded.
-use Rattle.std.proofs.Common.{Err}
+use Rattle.std.proofs.Common.{Err, refl}
 use Rattle.ptb_machine.specs.SeededRuns.{seeded_answers}
 use Rattle.ptb_machine.specs.Streams.{reads_of, writes_of}
+use Rattle.ptb_serve.specs.declared.note.Note.TheVariants as notes
 use Rattle.ptb_serve.proofs.Modes.{served_all, served_chances, served_check, served_plain}
 use Rattle.ptb_serve.proofs.Modes.{served_sample, served_seeded, served_shares, served_text}
 use Rattle.ptb_serve.proofs.Modes.{text_broken}
@@ -123,7 +124,7 @@ returns-in-Err g c =
     (g.R.Read.failures c.args.input.now) (g.R.Read.given c.args.input.now)
     (writes_of g.W.Write.contents g.W.Write.failures c.args.out.now c.list.new.writer) c.args.request.now.mode
     c.in-List.is c.requires.memory
-    (Err c.from.result) c.from.ensures c.in-Err.ensures.fault c.in-Err.ensures.failed
+    (Err notes.Unwritten) refl c.in-Err.ensures.fault c.in-Err.ensures.failed
     in
     rw c.without_mismatch-in-Err.ensures (record {
       serves = told.serves;

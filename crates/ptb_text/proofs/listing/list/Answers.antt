@@ -4,7 +4,8 @@ use Rattle.std.proofs.lemmas.List.{drop_all}
 use Rattle.ptb_text.specs.Device.{HasFailed}
 use Rattle.ptb_text.specs.Statements.{listing}
 use Rattle.ptb_text.proofs.Listed.{GivesProgram-listing, listing-drop}
-use Rattle.ptb_text.proofs.TakenPieces.{gathers_all, piece_taken, piece_fault, OnErr-error, OnOk-error}
+use Rattle.ptb_text.proofs.TakenPieces.{gathers_all, piece_taken, piece_fault, IfErr-passed}
+use Rattle.ptb_text.proofs.TakenPieces.{OnErr-error, OnOk-error}
 use Rattle.ptb_text.proofs.listing.list.Goals as goal
 
 -- a write failed
@@ -19,6 +20,7 @@ returns-in_err-write_line g c =
       fault = OnErr-error _ _ c.from_residual.result is (piece_fault _ _ _ next c.loop-at.invariant.taken some);
       failed = OnErr-error _ _ c.from_residual.result is (subst (λ (k : ℕ). HasFailed k
           (g.W.Write.failures c.write_line.new.writer)) c.loop-at.invariant.unfailed failed);
+      kind = IfErr-passed _ c.from_residual.result _ is c.in_err-write_line.ensures.kind;
       unfailed = OnOk-error _ _ c.from_residual.result is;
       reloads = GivesProgram-listing;
     }
@@ -32,6 +34,7 @@ returns g c =
       ok = gathers_all _ c.loop-at.invariant.taken (ap (λ ls. length (listing ls)) none);
       fault = tt;
       failed = tt;
+      kind = tt;
       unfailed = c.loop-at.invariant.unfailed;
       reloads = GivesProgram-listing;
     }

@@ -5,7 +5,7 @@ use Rattle.ptb_devices.specs.Readers.{input_of, line_input}
 use Rattle.std.proofs.lemmas.Result.{err_from_is_err_and}
 use Rattle.ptb_devices.proofs.GivenLines.{cut_asked, last_asked, line_given, all_cut, read_on}
 use Rattle.ptb_devices.proofs.GivenLines.{last_given, none_given, none_more, none_left_before}
-use Rattle.ptb_devices.proofs.GivenLines.{fault_reads, drained, true_or_false}
+use Rattle.ptb_devices.proofs.GivenLines.{fault_reads, drained, refused_by_source, true_or_false}
 use Rattle.ptb_devices.proofs.ContinuedReads.{ReadsOn_forget}
 use Rattle.ptb_devices.proofs.reader_lines.ReaderLinesLineSource.next.Goals as goal
 
@@ -37,7 +37,7 @@ returns-in_err-fill g c =
           tt,
         ),
       ),
-      record { after = tt; end = tt; short = tt },
+      record { after = tt; end = tt; kind = refused_by_source _ _ c.in_err-fill.ensures.fault; short = tt },
     )
 
 pub returns-then-give_last : goal.returns-then-give_last
@@ -64,7 +64,7 @@ returns-then-give_last g c =
           tt,
         ),
       ),
-      record { after = tt; end = tt; short = c.kept.ensures.short },
+      record { after = tt; end = tt; kind = tt; short = c.kept.ensures.short },
     )
 
 pub returns-then-not-branch : goal.returns-then-not-branch
@@ -85,7 +85,7 @@ returns-then-not-branch g c =
         λ _. tt,
         (record { same_borrow = c.loop-self.invariant.same_borrow; reads = last.0 }, tt, last.1, tt, more),
       ),
-      record { after = tt; end = none_left_before _ _ last.0.loses last.1; short = tt },
+      record { after = tt; end = none_left_before _ _ last.0.loses last.1; kind = tt; short = tt },
     )
 
 pub loop-self-preserved : goal.loop-self-preserved
@@ -114,5 +114,5 @@ returns g c =
           tt,
         ),
       ),
-      record { after = tt; end = tt; short = c.kept-2.ensures.short },
+      record { after = tt; end = tt; kind = tt; short = c.kept-2.ensures.short },
     )
