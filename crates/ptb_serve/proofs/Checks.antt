@@ -75,7 +75,8 @@ module _ (p : StoredProgram) (old new : Option (List ℕ)) (broke breaks : ℕ) 
   }
 
   pub check_broken : (result : Result ℕ Note) (fault : DeviceFault) → IsErrAnd result (λ note. note ≡ device_note fault)
-      → fault ≡ devices.Write → WritesMistakes (mistakes p.lines) old new (Err fault) → HasFailed broke breaks → IsChecked result
+      → fault ≡ devices.Write → WritesMistakes (mistakes p.lines) old new (Err fault) → HasFailed broke breaks
+      → IsChecked result
   check_broken result fault noted kind written has_failed =
       let e = err_from_is_err_and result noted in
       subst IsChecked (sym (e.1 ∙ ap Err (e.2 ∙ ap device_note kind)))

@@ -359,7 +359,8 @@ module _ (mode : Mode) (plain : IsPlainRun mode → ⊥) (needs : NeedsInput mod
   }
 
   -- where they are not
-  module _ {T : Type 0} (fault : DeviceFault) (read : IsErrOf {T = T} (Err fault) reads.Read → HasFailed failed fails) where
+  module _ {T : Type 0} (fault : DeviceFault) (read : IsErrOf {T = T} (Err fault) reads.Read
+      → HasFailed failed fails) where
     unread_lines : (fault : DeviceFault) → (IsErrOf {T = T} (Err fault) reads.Read → HasFailed failed fails)
         → (IsErrOf {T = T} (Err fault) reads.TooLong → IfSome i (λ c. input_limit < length c))
         → IsErrOf {T = ℕ} (Err (device_note fault)) notes.InputUnread → IsUnreadable i failed fails

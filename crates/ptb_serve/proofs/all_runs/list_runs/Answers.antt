@@ -11,9 +11,11 @@ pub returns-in-Err : goal.returns-in-Err
 returns-in-Err g c =
     let told = unread_served (modes.All c.args.under.now c.args.after.now c.args.first c.args.form) c.args.request.now
     c.args.program.now (λ x. x) tt
-    (g.W.Write.contents c.args.out.now) (g.W.Write.failures c.args.out.now) c.from.result c.in-Err.fault c.in-Err.ensures.kind
+    (g.W.Write.contents c.args.out.now) (g.W.Write.failures c.args.out.now) c.from.result c.in-Err.fault
+    c.in-Err.ensures.kind
     (λ known left. unread_listed c.args.request.now c.args.program.now c.requires.memory c.args.under.now
-    c.args.after.now c.args.first c.args.form known left (g.W.Write.contents c.args.out.now) c.in-Err.fault c.in-Err.ensures.kind)
+    c.args.after.now c.args.first c.args.form known left (g.W.Write.contents c.args.out.now)
+    c.in-Err.fault c.in-Err.ensures.kind)
     c.from.ensures c.in-Err.ensures.reads in
     rw c.without_mismatch.ensures (record {
       serves = told.serves;

@@ -9,9 +9,11 @@ use Rattle.ptb_serve.proofs.chances.list_table.Goals as goal
 pub returns-in-Err : goal.returns-in-Err
 returns-in-Err g c =
     unread_served modes.Chances c.args.request.now c.args.program.now (λ x. x) tt
-    (g.W.Write.contents c.args.out.now) (g.W.Write.failures c.args.out.now) c.from.result c.in-Err.fault c.in-Err.ensures.kind
+    (g.W.Write.contents c.args.out.now) (g.W.Write.failures c.args.out.now) c.from.result c.in-Err.fault
+    c.in-Err.ensures.kind
     (λ known left. unread_table c.args.request.now c.args.program.now c.requires.memory known left
-    (g.W.Write.contents c.args.out.now) c.in-Err.fault c.in-Err.ensures.kind)
+    (g.W.Write.contents c.args.out.now)
+    c.in-Err.fault c.in-Err.ensures.kind)
     c.from.ensures c.in-Err.ensures.reads
 
 -- they are

@@ -10,9 +10,11 @@ pub returns-in-Err : goal.returns-in-Err
 returns-in-Err g c =
     unread_served (modes.Sample c.args.sample.seed c.args.sample.runs c.args.sample.form) c.args.request.now
     c.args.program.now (λ x. x) tt
-    (g.W.Write.contents c.args.out.now) (g.W.Write.failures c.args.out.now) c.from.result c.in-Err.fault c.in-Err.ensures.kind
+    (g.W.Write.contents c.args.out.now) (g.W.Write.failures c.args.out.now) c.from.result c.in-Err.fault
+    c.in-Err.ensures.kind
     (λ known left. unread_sampled c.args.request.now c.args.program.now c.requires.memory c.args.sample.seed
-    c.args.sample.runs c.args.sample.form known left (g.W.Write.contents c.args.out.now) c.in-Err.fault c.in-Err.ensures.kind)
+    c.args.sample.runs c.args.sample.form known left (g.W.Write.contents c.args.out.now)
+    c.in-Err.fault c.in-Err.ensures.kind)
     c.from.ensures c.in-Err.ensures.reads
 
 -- they are

@@ -9,9 +9,11 @@ use Rattle.ptb_serve.proofs.shares.list_shares.Goals as goal
 pub returns-in-Err : goal.returns-in-Err
 returns-in-Err g c =
     unread_served (modes.Shares c.args.answers c.args.form) c.args.request.now c.args.program.now (λ x. x) tt
-    (g.W.Write.contents c.args.out.now) (g.W.Write.failures c.args.out.now) c.from.result c.in-Err.fault c.in-Err.ensures.kind
+    (g.W.Write.contents c.args.out.now) (g.W.Write.failures c.args.out.now) c.from.result c.in-Err.fault
+    c.in-Err.ensures.kind
     (λ known left. unread_split c.args.request.now c.args.program.now c.requires.memory c.args.answers c.args.form known
-    left (g.W.Write.contents c.args.out.now) c.in-Err.fault c.in-Err.ensures.kind)
+    left (g.W.Write.contents c.args.out.now)
+    c.in-Err.fault c.in-Err.ensures.kind)
     c.from.ensures c.in-Err.ensures.reads
 
 -- they are
