@@ -42,7 +42,8 @@ use Rattle.ptb_machine.specs.Devices.{Devices, Exchanges, no_exchange, with_choi
 use Rattle.ptb_machine.specs.Devices.{Unanswered, Unread, NoLine, refused_answers, refused_by}
 use Rattle.ptb_machine.specs.Devices.{HasBroken}
 use Rattle.ptb_machine.specs.Traces.{Trace, trace, with_due, still_due, after, once_shown, RefinesPart}
-use Rattle.ptb_machine.specs.Stops.{stop_of, stop_of_device, LacksLine, WantsLine, DeviceFails, Stops, RefinesPartTo, Comes}
+use Rattle.ptb_machine.specs.Stops.{stop_of, stop_of_device, LacksLine, WantsLine, DeviceFails, Stops}
+use Rattle.ptb_machine.specs.Stops.{RefinesPartTo, Comes}
 use Rattle.ptb_machine.proofs.Effects.{takes_joined, ask_lines, input_part, input_takes}
 use Rattle.ptb_machine.proofs.Exchanges.{shows_nothing, with_answers_nil}
 use Rattle.ptb_machine.proofs.PartRefinement.{leaves_to, leaves_itself, after_nothing, once_nothing}
@@ -490,7 +491,8 @@ module _ (said : List ℕ) (x : Tree) (prompt : List ℕ) where
     broken = h;
   }
 
-  pub take_unread : (refused : Refusal → Type 0) {o m : Trace} (most : ℕ) (at : Target) (f : DeviceFault) → IsSourceFault f
+  pub take_unread : (refused : Refusal → Type 0) {o m : Trace} (most : ℕ) (at : Target) (f : DeviceFault)
+      → IsSourceFault f
       → most ≤ m.devices.most → RefinesPart o m (ask_for said x prompt) (goes_on at) → refused (Unread f)
       → Stops refused (RefinesPartTo o (with_most most m) (item_action said x prompt)) (with_most most m).devices
       (stop_of_device f)
@@ -678,8 +680,8 @@ gives_same gives s xs u t e = subst (gives s xs) (sym e)
 module _ {L : Type 0} (gives : L → List (List ℕ) → L → Type 0) (more : (s t u : L) (xs ys : List (List ℕ))
     → gives s xs t → gives t ys u → gives s (xs ++ ys) u) where
   -- a call that gave none
-  pub gives_no_more : (s t u : L) (xs : List (List ℕ)) (r : Result (Option (Bor (List ℕ))) DeviceFault) → given_lines r ≡ []
-      → gives s xs t → gives t (given_lines r) u → gives s xs u
+  pub gives_no_more : (s t u : L) (xs : List (List ℕ)) (r : Result (Option (Bor (List ℕ))) DeviceFault)
+      → given_lines r ≡ [] → gives s xs t → gives t (given_lines r) u → gives s xs u
   gives_no_more s t u xs r e a b = subst (λ (ys : List (List ℕ)). gives s ys u) (append-nil xs)
       (more s t u xs [] a (subst (λ (ys : List (List ℕ)). gives t ys u) e b))
 

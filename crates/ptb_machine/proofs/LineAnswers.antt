@@ -77,7 +77,8 @@ module _ (said : List ℕ) (x : Tree) (prompt : List ℕ) {i o : Trace}
     pub answering_unread : {X : Type 0} (answers : Pause → ℤ → Type 0) (unread : DeviceFault → Type 0)
         (lines : Option (List (List ℕ))) (ok : X → Action (Unit {0})) (r : Result X Stop) (f : DeviceFault)
         → IsErrAnd r (λ y. y ≡ stop_of_device f) → m.due ≡ [] → most ≤ m.devices.most
-        → (line : Result (Option (Bor (List ℕ))) DeviceFault) → line ≡ Err f → IfErr line IsSourceFault → IfErr line unread
+        → (line : Result (Option (Bor (List ℕ))) DeviceFault) → line ≡ Err f → IfErr line IsSourceFault
+        → IfErr line unread
         → Comes (refused_by answers unread lines) i (with_most most m) (item_action said x prompt) ok r
     answering_unread answers unread lines ok r f is empty fewer line fails k h =
         comes_err (refused_by answers unread lines) i (with_most most m) (item_action said x prompt) ok r
@@ -93,7 +94,8 @@ module _ (said : List ℕ) (x : Tree) (prompt : List ℕ) {i o : Trace}
     module _ (line : Result (Option (Bor (List ℕ))) DeviceFault) (none : line ≡ Ok None)
         (no_more : IfOk line (λ l. IfNone l (most ≡ 0))) where
       -- the run ends for lack of a line
-      pub answering_ends : (answers : Pause → ℤ → Type 0) (unread : DeviceFault → Type 0) (lines : Option (List (List ℕ)))
+      pub answering_ends : (answers : Pause → ℤ → Type 0) (unread : DeviceFault → Type 0)
+          (lines : Option (List (List ℕ)))
           → m.due ≡ [] → m.devices.choose ≡ None → IfOk line (λ l. IfNone l (NoneLeft lines))
           → Stops (refused_by answers unread lines) (RefinesPartTo i (with_due (still_due m.due stops.NoInput)
           (with_most most m)) (item_action said x prompt)) (with_most most m).devices stops.NoInput

@@ -128,8 +128,8 @@ module _ {L : Type 0} (refused : L → DeviceFault → Type 0) (missed most : L 
         (NotMissed choose (missed s) (missed t) (most t)) missed_on (stop_miss e) k)
 
 -- a command that takes no line from the source
-pub alone_missed : {L X : Type 0} (refused : L → DeviceFault → Type 0) (missed most : L → ℕ) (choose : Option ℤ) (s t : L)
-    → t ≡ s → (r : Result X Stop)
+pub alone_missed : {L X : Type 0} (refused : L → DeviceFault → Type 0) (missed most : L → ℕ) (choose : Option ℤ)
+    (s t : L) → t ≡ s → (r : Result X Stop)
     → UnlessMissed (refused t) (NotMissed choose (missed s) (missed t) (most t)) (miss_of r)
 alone_missed {L = L} refused missed most choose s t e r =
     subst (λ (u : L). UnlessMissed (refused u) (NotMissed choose (missed s) (missed u) (most u)) (miss_of r)) (sym e)

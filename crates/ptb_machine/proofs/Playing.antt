@@ -416,8 +416,8 @@ module _ (p : StoredProgram) (rules : Rules) (a : Answers) (refuses : Pause → 
 
 -- where the chooser goes by these answers on whatever lines
 module _ (p : StoredProgram) (rules : Rules) (answers : List (List ℕ) → Answers) (refuses : Pause → ℤ → Type 0)
-    (noticed : Bool) (c d : Choices) (old new : ScreenState) (could can : ℕ) (given : List (List ℕ)) (unread : DeviceFault
-    → Type 0) (left : Option (List (List ℕ)))
+    (noticed : Bool) (c d : Choices) (old new : ScreenState) (could can : ℕ) (given : List (List ℕ))
+    (unread : DeviceFault → Type 0) (left : Option (List (List ℕ)))
     (result : Result Ending RunFault) (goes : GoesBy refuses c d answers p rules)
     (h : Runs (refused_by (noted noticed refuses) unread left) p rules (devices c old could rules.choose [])
     (devices d new can rules.choose given) result) (over : can ≡ 0 → NoneLeft left) where
@@ -445,8 +445,8 @@ module _ (p : StoredProgram) (rules : Rules) (answers : List (List ℕ) → Answ
 
 -- the line of its end is that of the play
 module _ (p : StoredProgram) (rules : Rules) (answers : List (List ℕ) → Answers) (refuses : Pause → ℤ → Type 0)
-    (noticed : Bool) (c d : Choices) (old new : ScreenState) (could can : ℕ) (given : List (List ℕ)) (unread : DeviceFault
-    → Type 0) (left : Option (List (List ℕ)))
+    (noticed : Bool) (c d : Choices) (old new : ScreenState) (could can : ℕ) (given : List (List ℕ))
+    (unread : DeviceFault → Type 0) (left : Option (List (List ℕ)))
     (goes : GoesBy refuses c d answers p rules) (over : can ≡ 0 → NoneLeft left)
     (end : RunEnd) (h : IsLineOf p rules (devices c old could rules.choose [])
     (devices d new can rules.choose given) end) where

@@ -123,7 +123,8 @@ result_unspent o n number text done r is e =
 -- ---- lines that the source didn't give
 
 reported_unmissed : (refused : DeviceFault → Type 0) (P : Type 0) → P
-    → (kind : FaultKind) (shown : Result (Unit {0}) DeviceFault) → UnlessMissed refused P (step_miss (reported kind shown))
+    → (kind : FaultKind) (shown : Result (Unit {0}) DeviceFault)
+    → UnlessMissed refused P (step_miss (reported kind shown))
 reported_unmissed refused P p kind shown = miss_unmissed refused P p (step_miss (reported kind shown))
 
 pub result_missed : (refused : DeviceFault → Type 0) (P : Type 0) (o n : Trace) (number : ℕ) (text : List ℕ)

@@ -17,8 +17,9 @@ use Rattle.ptb_machine.proofs.Actions.{show_adds}
 use Rattle.ptb_machine.proofs.PartRefinement.{refines_part_same, refines_part_then, refines_part_under}
 use Rattle.ptb_machine.proofs.Stops.{stops_under, stops_after}
 
-pub shown_err : (o n : Trace) (bytes : List ℕ) (r : Result (Unit {0}) DeviceFault) (e : DeviceFault) → IsErrAnd r (λ y. y ≡ e)
-    → Stops nothing_refused (RefinesPartTo o n (show bytes)) n.devices (stop_of_device e) → IsShown o n bytes r
+pub shown_err : (o n : Trace) (bytes : List ℕ) (r : Result (Unit {0}) DeviceFault) (e : DeviceFault)
+    → IsErrAnd r (λ y. y ≡ e) → Stops nothing_refused (RefinesPartTo o n (show bytes)) n.devices (stop_of_device e)
+    → IsShown o n bytes r
 shown_err o n bytes r e k s =
     let q = err_from_is_err_and r k in
     subst (λ (x : Result (Unit {0}) DeviceFault). IsShown o n bytes x) (sym (q.1 ∙ ap Err q.2)) s

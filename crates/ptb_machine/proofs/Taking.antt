@@ -194,7 +194,8 @@ fault_without_memory Failed e = absurd cc
 fault_without_memory Exceeded e = absurd cc
 
 -- so a run on such an input couldn't read a line
-pub fault_unread : (end : InputEnd) (fault : DeviceFault) → fault_at end ≡ Some fault → fault_of_device fault ≡ runs.Read
+pub fault_unread : (end : InputEnd) (fault : DeviceFault) → fault_at end ≡ Some fault
+    → fault_of_device fault ≡ runs.Read
 fault_unread end reads.Read e = refl
 fault_unread end reads.TooLong e = refl
 fault_unread end reads.Write e = absurd (fault_of_no_writer end e)
