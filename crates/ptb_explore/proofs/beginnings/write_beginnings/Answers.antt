@@ -8,50 +8,50 @@ use Rattle.ptb_explore.proofs.WrittenLines.{one_line_fewer, one_line_more, same_
 use Rattle.ptb_explore.proofs.WrittenReports.{ended_failed, ended_unfailed, next_kind}
 use Rattle.ptb_explore.proofs.beginnings.write_beginnings.Goals as goal
 
-pub loop-written-init : goal.loop-written-init
-loop-written-init g c = search rules
+pub loop-fault-init : goal.loop-fault-init
+loop-fault-init g c = search rules
 
-pub loop-written-smaller : goal.loop-written-smaller
-loop-written-smaller g c =
-    one_line_fewer c.args.form c.args.beginnings.now c.loop-written.beginnings c.loop-written.invariant.same
-    (game_reads c.run_laws.ensures c.args.beginnings.now) _ _ _ _ c.loop-written.invariant.progress
+pub loop-fault-smaller : goal.loop-fault-smaller
+loop-fault-smaller g c =
+    one_line_fewer c.args.form c.args.beginnings.now c.loop-fault.beginnings c.loop-fault.invariant.same
+    (game_reads c.run_laws.ensures c.args.beginnings.now) _ _ _ _ c.loop-fault.invariant.progress
     c.write_next_line.new.beginnings.front _ _ c.in-Ok-true.field-0-test c.in-Ok-true.ensures.writes
 
-pub loop-written-preserved : goal.loop-written-preserved
-loop-written-preserved g c = record {
-  same = same_search c.args.form c.args.beginnings.now c.loop-written.beginnings c.loop-written.invariant.same _
+pub loop-fault-preserved : goal.loop-fault-preserved
+loop-fault-preserved g c = record {
+  same = same_search c.args.form c.args.beginnings.now c.loop-fault.beginnings c.loop-fault.invariant.same _
       c.in-Ok-true.ensures.same;
-  unfailed = c.in-Ok-true.ensures.unfailed (λ fault. ok_no_err fault) ∙ c.loop-written.invariant.unfailed;
-  progress = one_line_more c.args.form c.args.beginnings.now c.loop-written.beginnings c.loop-written.invariant.same
-      (game_reads c.run_laws.ensures c.args.beginnings.now) _ _ _ _ c.loop-written.invariant.progress
+  unfailed = c.in-Ok-true.ensures.unfailed (λ fault. ok_no_err fault) ∙ c.loop-fault.invariant.unfailed;
+  progress = one_line_more c.args.form c.args.beginnings.now c.loop-fault.beginnings c.loop-fault.invariant.same
+      (game_reads c.run_laws.ensures c.args.beginnings.now) _ _ _ _ c.loop-fault.invariant.progress
       c.write_next_line.new.beginnings.front _ _ c.in-Ok-true.field-0-test c.in-Ok-true.ensures.writes
       _ c.saturating_add-written.ensures;
 }
 
 pub returns-in-Ok-false : goal.returns-in-Ok-false
 returns-in-Ok-false g c = record {
-  same = same_search c.args.form c.args.beginnings.now c.loop-written.beginnings c.loop-written.invariant.same _
+  same = same_search c.args.form c.args.beginnings.now c.loop-fault.beginnings c.loop-fault.invariant.same _
       c.in-Ok-false.ensures.same;
-  writes = no_line c.args.form c.args.beginnings.now c.loop-written.beginnings c.loop-written.invariant.same
-      (game_reads c.run_laws.ensures c.args.beginnings.now) _ _ _ _ c.loop-written.invariant.progress
+  writes = no_line c.args.form c.args.beginnings.now c.loop-fault.beginnings c.loop-fault.invariant.same
+      (game_reads c.run_laws.ensures c.args.beginnings.now) _ _ _ _ c.loop-fault.invariant.progress
       c.write_next_line.new.beginnings.front _ _ c.in-Ok-false.field-0-test c.in-Ok-false.ensures.writes;
   failed = λ n fault. ok_no_err fault;
-  unfailed = λ _. c.in-Ok-false.ensures.unfailed (λ fault. ok_no_err fault) ∙ c.loop-written.invariant.unfailed;
+  unfailed = λ _. c.in-Ok-false.ensures.unfailed (λ fault. ok_no_err fault) ∙ c.loop-fault.invariant.unfailed;
 }
 
 pub returns-in-Err : goal.returns-in-Err
 returns-in-Err g c =
-    let s = c.loop-written.beginnings in
+    let s = c.loop-fault.beginnings in
     let kind = next_kind (game_of s) [] (beginning_line c.args.form (split_play s)) s.front
-    c.write_next_line.new.beginnings.front (g.W.Write.contents c.loop-written.writer)
+    c.write_next_line.new.beginnings.front (g.W.Write.contents c.loop-fault.writer)
     (g.W.Write.contents c.write_next_line.new.writer) c.in-Err.fault c.in-Err.ensures.writes in
     rw c.after.ensures (record {
-      same = same_search c.args.form c.args.beginnings.now s c.loop-written.invariant.same _ c.in-Err.ensures.same;
-      writes = line_ends c.args.form c.args.beginnings.now s c.loop-written.invariant.same
-          (game_reads c.run_laws.ensures c.args.beginnings.now) _ _ _ _ c.loop-written.invariant.progress
+      same = same_search c.args.form c.args.beginnings.now s c.loop-fault.invariant.same _ c.in-Err.ensures.same;
+      writes = line_ends c.args.form c.args.beginnings.now s c.loop-fault.invariant.same
+          (game_reads c.run_laws.ensures c.args.beginnings.now) _ _ _ _ c.loop-fault.invariant.progress
           c.write_next_line.new.beginnings.front _ c.in-Err.fault c.in-Err.ensures.writes;
       failed = ended_failed c.in-Err.fault kind
-          (λ fault. failed_after _ _ _ c.loop-written.invariant.unfailed (c.in-Err.ensures.failed fault)) _;
+          (λ fault. failed_after _ _ _ c.loop-fault.invariant.unfailed (c.in-Err.ensures.failed fault)) _;
       unfailed = ended_unfailed c.in-Err.fault kind
-          (λ none. c.in-Err.ensures.unfailed none ∙ c.loop-written.invariant.unfailed) _;
+          (λ none. c.in-Err.ensures.unfailed none ∙ c.loop-fault.invariant.unfailed) _;
     })

@@ -6,8 +6,8 @@ use Rattle.ptb_explore.proofs.WrittenLines.{game_of}
 use Rattle.ptb_explore.proofs.Progress.{Progress}
 use Rattle.ptb_explore.proofs.beginnings.write_beginnings.Given as goal
 
-abbrev pub invariant-loop-written : goal.invariant-loop-written
-invariant-loop-written g l =
+abbrev pub invariant-loop-fault : goal.invariant-loop-fault
+invariant-loop-fault g l =
     let first = l.fn.beginnings in
     record {
       same : l.beginnings ≡ record first { front = l.beginnings.front };
@@ -18,5 +18,5 @@ invariant-loop-written g l =
     }
 
 -- fewer lists are left after each line
-abbrev pub decreases-loop-written : goal.decreases-loop-written
-decreases-loop-written g l = length (runs_after (game_of l.fn.beginnings) l.fn.beginnings.most [] l.beginnings.front)
+abbrev pub decreases-loop-fault : goal.decreases-loop-fault
+decreases-loop-fault g l = length (runs_after (game_of l.fn.beginnings) l.fn.beginnings.most [] l.beginnings.front)
