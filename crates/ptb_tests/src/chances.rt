@@ -2,8 +2,8 @@
 
 use crate::shared::{OUT_OF_MEMORY, expect_same, loaded};
 use ptb_chances::{Unwatched, chances_text, write_chances};
-use ptb_machine::Rules;
-use ptb_text::{Device, DeviceFault};
+use ptb_machine::{Line, Rules};
+use ptb_text::{Device, DeviceFault, Program};
 use std::alloc::Global;
 use std::process::Abort;
 use std::test::Fail;
@@ -186,7 +186,7 @@ fn refused_tables_write_nothing(rt: HostRuntime) -> Result<(), Fail> {
         Err(DeviceFault::Memory) => {
             expect_same(&rt, "nothing", room.iter().all(|b| *b == b'.'), true);
         }
-        Err(DeviceFault::Write) => return Err(Fail::from("not written")),
+        Err(_) => return Err(Fail::from("not written")),
     }
     Ok(())
 }

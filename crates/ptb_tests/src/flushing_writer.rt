@@ -40,6 +40,11 @@ fn each_write_is_flushed(rt: HostRuntime) {
         out.write_all(b"two"),
         out.write_all(b"three"),
     );
-    expect_same(&rt, "writes", found, (Ok(()), Ok(()), Err(DeviceFault::Write)));
+    expect_same(
+        &rt,
+        "writes",
+        found,
+        (Ok(()), Ok(()), Err(DeviceFault::Write)),
+    );
     expect_same(&rt, "taken", tank.taken.as_slice(), b"onetwothree");
 }
