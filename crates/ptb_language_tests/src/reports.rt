@@ -256,7 +256,12 @@ fn reports_after_others(rt: HostRuntime) {
         let mut room = [b'.'; 100];
         let done = write_to(&mut reports, &mut room[..], form, run);
         let found = (failed, long, done, holds(&room, due.as_bytes()));
-        expect_same(&rt, due, found, (Err(DeviceFault::Write), Ok(()), Ok(()), true));
+        expect_same(
+            &rt,
+            due,
+            found,
+            (Err(DeviceFault::Write), Ok(()), Ok(()), true),
+        );
     }
 }
 
