@@ -1,27 +1,34 @@
 -- This file proves how an input continues at each step: a line is cut, more is read, the end or a fault comes.
 -- Main lemmas: `ReadsOn_line`, `ReadsOn_more_bytes` and `ReadsOn_end`.
-use Rattle.std.proofs.Common.{◌≡◌, ℕ, ◌+◌, ◌-◌, ◌≤◌, ◌<◌, ◌⊎◌, inl, inr, min, Bool, true, false}
+use Rattle.std.proofs.Common.{◌≡◌, ℕ, ◌+◌, ◌-◌, ◌≤◌, ◌<◌, inl, inr, Bool, true, false}
 use Rattle.std.proofs.Common.{ltb, List, [], ◌∷◌, ◌++◌, length, take, Option, Some, None, IfSome}
+use Rattle.std.proofs.Common.{Result, Ok}
 use Rattle.std.proofs.Common.{is_some, refl, sym, ap, subst, ◌∙◌, append_assoc, append-nil}
 use Rattle.std.proofs.Common.{slice_range, arith, length-append, length-take, length-drop, take_all}
 use Rattle.std.proofs.Common.{drop, drop-drop, take-append-drop}
 use Rattle.std.specs.Prelude.{if◌then◌else◌}
-use Rattle.std.proofs.Math.Nat.{eq-or-lt_of_le}
+use Rattle.std.specs.Result.{IsErr, is_ok}
 use Rattle.std.proofs.Math.Seq.{take-nil}
-use Rattle.std.proofs.lemmas.List.{drop-take, take-append-le}
+use Rattle.std.proofs.lemmas.List.{drop-take, length-take-le}
 use Rattle.std.proofs.lemmas.Bool.{ltb-true, lt-ltb, le-ltb, ltb_from_iff}
-use Rattle.std.specs.Io.KnownBytes.{Consumes, Keeps, IsAtEnd}
+use Rattle.std.specs.Io.KnownBytes.{Consumes, IsAtEnd}
 use Rattle.std.proofs.KnownBytes.{Consumes-nil}
-use Rattle.ptb_text.specs.Device.{GivesExactly, failure_limit, given_limit}
+use Rattle.ptb_text.specs.Device.{HasFailed, IsCounted}
+use Rattle.ptb_text.specs.Streams.{ReadsWithin, reads_of}
+use Rattle.ptb_text.specs.declared.allowance.Piece.{Piece}
+use Rattle.ptb_text.specs.declared.allowance.Piece.TheVariants as pieces
+use Rattle.ptb_text.specs.declared.device_fault.DeviceFault.{DeviceFault}
+use Rattle.ptb_text.proofs.ByteCounts.{IsCounted_none}
+use Rattle.ptb_text.proofs.LimitedReads.{told_as}
 use Rattle.ptb_devices.specs.declared.line_buffer.InputEnd.{InputEnd}
 use Rattle.ptb_devices.specs.declared.line_buffer.InputEnd.TheVariants.{Open, Ended, Failed, Exceeded}
 use Rattle.ptb_devices.specs.CutLines.{kept_bytes, whole_lines, last_piece, last_line, Cuts}
 use Rattle.ptb_devices.specs.CutLineLaws.{whole_lines-append, last_piece-append}
 use Rattle.ptb_devices.specs.Sources.{Loses}
-use Rattle.ptb_devices.specs.Inputs.{InputState, InputNow, IsCounted, open_piece, cut_bytes}
+use Rattle.ptb_devices.specs.Inputs.{InputState, InputNow, open_piece, cut_bytes}
 use Rattle.ptb_devices.specs.Inputs.{ends_within, lines_to_end, known_lines, CutsLine, CutsAll}
 use Rattle.ptb_devices.specs.Inputs.{TakesLine, asked_at, asked, ReadsOn}
-use Rattle.ptb_devices.specs.InputLaws.{IsCounted_none, ReadsOn_none, take-split}
+use Rattle.ptb_devices.specs.InputLaws.{ReadsOn_none, take-split}
 use Rattle.ptb_devices.proofs.CutLines.{Cuts_more}
 
 -- ---- lines that are asked for
@@ -293,34 +300,23 @@ ReadsOn_end p given k old new f g x y c end room unfailed counted = record {
   exceeded = λ e. absurd (let clash : Ended ≡ Exceeded = e in cc);
 }
 
-Consumes_kept : (a b : Option (List ℕ)) → Keeps a b → Consumes a b []
-Consumes_kept None b k = tt
-Consumes_kept (Some x) None k = absurd k
-Consumes_kept (Some x) (Some y) k = sym k
-
-loses_failed : (p : Option (List ℕ)) (given : Bool) (k : ℕ) (old new : Option (List ℕ)) → Keeps old new
+loses_failed : (p : Option (List ℕ)) (given : Bool) (k : ℕ) (old new : Option (List ℕ)) → Consumes old new []
     → Loses (known_lines (record { state = state_at p given [] k Open; bytes = old; given = 0; failures = 0 }))
     (known_lines (record { state = state_at p given [] k Failed; bytes = new; given = 0; failures = 0 })) []
 loses_failed p given k None new c = tt
 loses_failed p given k (Some x) None c = absurd c
 loses_failed p given k (Some x) (Some y) c =
-    ap (λ l. lines_to_end (ltb (length l) k) (left_open given p) (take (k - 1) l)) (sym c)
-
-counted_fault : (f g most : ℕ) → f ≤ most → g ≡ min (f + 1) most → (f < g) ⊎ (f ≡ most)
-counted_fault f g most fits counted = at_least (eq-or-lt_of_le fits) where
-  at_least : (f ≡ most) ⊎ (f < most) → (f < g) ⊎ (f ≡ most)
-  at_least (inl e) = inr e
-  at_least (inr h) = inl (omega (arith, counted))
+    ap (λ l. lines_to_end (ltb (length l) k) (left_open given p) (take (k - 1) l)) c
 
 pub ReadsOn_failed : (p : Option (List ℕ)) (given : Bool) (k : ℕ) (old new : Option (List ℕ)) (f g x y : ℕ)
-    → Keeps old new → f ≤ failure_limit → g ≡ min (f + 1) failure_limit → IsCounted x y 0
+    → Consumes old new [] → HasFailed f g → f ≤ g → IsCounted x y 0
     → ReadsOn 1 (record { state = state_at p given [] k Open; bytes = old; given = x; failures = f }) []
     (record { state = state_at p given [] k Failed; bytes = new; given = y; failures = g })
-ReadsOn_failed p given k old new f g x y c fits counted count = record {
+ReadsOn_failed p given k old new f g x y c failed later count = record {
   loses = loses_failed p given k old new c;
   falls = omega arith;
   taken = [];
-  consumed = Consumes_kept old new c;
+  consumed = c;
   counted = count;
   room = omega arith;
   ahead = inl refl;
@@ -334,9 +330,9 @@ ReadsOn_failed p given k old new f g x y c fits counted count = record {
   );
   spare = λ room _. room;
   ended = λ e. absurd (let clash : Failed ≡ Ended = e in cc);
-  later = omega (arith, fits, counted);
+  later = later;
   unfailed = λ other. absurd (other refl);
-  failed = λ _. inr (counted_fault f g failure_limit fits counted);
+  failed = λ _. inr failed;
   exceeded = λ e. absurd (let clash : Failed ≡ Exceeded = e in cc);
 }
 
@@ -383,6 +379,63 @@ ReadsOn_exceeded p given piece old new f g x y c one unfailed counted = record {
   exceeded = λ _. inr refl;
 }
 
+-- ---- a read within what is left
+
+module _ {R : Type 0} (remaining : R → Option (List ℕ)) (gave failures : R → ℕ) (r s : R) (p : Option (List ℕ))
+    (given : Bool) (left now : ℕ) (result : Result Piece DeviceFault) (buffer : List ℕ)
+    (step : ReadsWithin left now (reads_of remaining gave failures r s) result buffer) (room : 0 < left) where
+  abbrev before : InputNow
+  before = record { state = state_at p given [] left Open; bytes = remaining r; given = gave r; failures = failures r }
+
+  abbrev after : List ℕ → InputEnd → InputNow
+  after waiting end =
+      record { state = state_at p given waiting now end; bytes = remaining s; given = gave s; failures = failures s }
+
+  none_taken : step.taken ≡ [] → Consumes (remaining r) (remaining s) [] × IsCounted (gave r) (gave s) 0 × (now ≡ left)
+  none_taken none = (
+    subst (Consumes (remaining r) (remaining s)) none step.consumed,
+    subst (IsCounted (gave r) (gave s)) (ap length none) step.given,
+    omega (arith, step.room, ap length none),
+  )
+
+  pub read_end : result ≡ Ok pieces.End → ReadsOn 1 before [] (after [] Ended)
+  read_end is =
+      let told = told_as step (Ok pieces.End) is in
+      let none = none_taken told.0 in
+      rw none.2 (ReadsOn_end p given left (remaining r) (remaining s) (failures r) (failures s) (gave r) (gave s) none.0
+      told.2 room (step.unfailed (ap is_ok is)) none.1)
+
+  pub read_failed : IsErr result → step.taken ≡ [] → ReadsOn 1 before [] (after [] Failed)
+  read_failed is taken =
+      let none = none_taken taken in
+      rw none.2 (ReadsOn_failed p given left (remaining r) (remaining s) (failures r) (failures s) (gave r) (gave s)
+      none.0 (step.has_failed is) step.later none.1)
+
+  pub read_bytes : (n : ℕ) → result ≡ Ok (pieces.Bytes n) → length buffer ≡ 4096
+      → ReadsOn 1 before [] (after (take n buffer) Open)
+  read_bytes n is size =
+      let told = told_as step (Ok (pieces.Bytes n)) is in
+      let long : length (take n buffer) ≡ n = length-take-le n buffer told.2 in
+      ReadsOn_more_bytes p given (take n buffer) left now (remaining r) (remaining s) (failures r) (failures s) (gave r)
+      (gave s) (subst (Consumes (remaining r) (remaining s)) told.0 step.consumed)
+      (omega (arith, step.room, ap length told.0)) told.3 (step.unfailed (ap is_ok is)) (omega (arith, long, told.1))
+      (omega (arith, long, told.2, size))
+      (subst (λ bytes. IsCounted (gave r) (gave s) (length bytes)) told.0 step.given)
+
+  pub read_falls : (n : ℕ) → result ≡ Ok (pieces.Bytes n) → now < left
+  read_falls n is =
+      let told = told_as step (Ok (pieces.Bytes n)) is in
+      omega (arith, ap length told.0, length-take-le n buffer told.2, told.1, step.room)
+
+  pub read_too_long : result ≡ Ok pieces.TooLong → ReadsOn 1 before [] (after [] Exceeded)
+  read_too_long is =
+      let told = told_as step (Ok pieces.TooLong) is in
+      let last : left ≡ 1 = omega (arith, told.0, room) in
+      let none : now ≡ 0 = told.1 in
+      let one : length step.taken ≡ 1 = omega (arith, last, none, step.room) in
+      rw (last, none) (ReadsOn_exceeded p given step.taken (remaining r) (remaining s) (failures r) (failures s)
+      (gave r) (gave s) step.consumed one (step.unfailed (ap is_ok is)) step.given)
+
 -- ---- the states of the machine's fields
 
 -- where all that has come is cut, and the reader may have more
@@ -400,14 +453,9 @@ slice_range-none xs ys i j ordered inside none =
     let size : j - i ≡ length (slice_range xs i j) = omega (arith, length-take (j - i) (drop i xs), length-drop i xs) in
     ap (λ n. take n (drop i ys)) (let empty : j - i ≡ 0 = size ∙ ap length none in empty)
 
--- the first bytes of a buffer, where they were read to its front
-pub slice_range-read : (n : ℕ) (xs ys : List ℕ) → n ≤ length xs → slice_range (xs ++ ys) 0 n ≡ take n xs
-slice_range-read n xs ys inside = ap (λ k. take k (xs ++ ys)) (let e : n - 0 ≡ n = omega arith in
-    e) ∙ take-append-le n xs ys inside
-
-pub Consumes_no_bytes : (a b : Option (List ℕ)) (n : ℕ) (xs : List ℕ) → n ≡ 0 → Consumes a b (take n xs)
-    → Consumes a b []
-Consumes_no_bytes a b n xs e c = subst (λ k. Consumes a b (take k xs)) e c
+-- the first bytes of a buffer
+pub slice_range-read : (n : ℕ) (xs : List ℕ) → slice_range xs 0 n ≡ take n xs
+slice_range-read n xs = ap (λ k. take k xs) (let e : n - 0 ≡ n = omega arith in e)
 
 -- a range is its first bytes and the range after them
 pub slice_range-front : (xs : List ℕ) (i j n : ℕ) → i + n ≤ j
@@ -461,17 +509,3 @@ module _ (wanted k : ℕ) (known : Option (List ℕ)) (x f : ℕ) where
     failed = λ e. inl e;
     exceeded = λ e. inl e;
   }
-
--- ---- what a read counts
-
-pub IsCounted_read : (x y n : ℕ) → x ≤ given_limit → GivesExactly x y n → IsCounted x y n
-IsCounted_read x y n within gives = record {
-  at_most = (omega (arith, within, gives), omega (arith, gives));
-  exactly = λ _. gives;
-}
-
-pub IsCounted_fault : (x y : ℕ) → y ≡ x → IsCounted x y 0
-IsCounted_fault x y same = record {
-  at_most = (omega (arith, same), omega (arith, same));
-  exactly = λ some. absurd (omega arith);
-}

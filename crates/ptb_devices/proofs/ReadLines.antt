@@ -1,79 +1,53 @@
 -- This file proves how the input lines come about while an input is read in pieces.
--- Main lemmas: `IsReadUpTo_more` and `IsReadUpTo_end`.
-use Rattle.std.proofs.Common.{◌≡◌, ℕ, zero, suc, ◌+◌, ◌-◌, ◌<◌, ◌≤◌, List, take, [], ◌∷◌, ◌++◌}
-use Rattle.std.proofs.Common.{length, Option, None, Some, IfSome, refl, sym, ap, ◌∙◌, append-nil}
-use Rattle.std.proofs.Common.{arith, length-append}
-use Rattle.std.specs.Io.KnownBytes.{Consumes, Keeps, IsAtEnd}
-use Rattle.std.proofs.KnownBytes.{Consumes-trans, Consumes-kept, Consumes-whole}
+-- Main lemmas: `IsCutUpTo_more` and `lines_to_here`.
+use Rattle.std.proofs.Common.{◌≡◌, ℕ, ◌+◌, List, take, [], ◌++◌, Option, None, IfSome, Result, Ok, refl, sym}
+use Rattle.std.proofs.Common.{ap, ◌∙◌}
+use Rattle.ptb_text.specs.declared.allowance.Piece.{Piece}
+use Rattle.ptb_text.specs.declared.allowance.Piece.TheVariants as pieces
+use Rattle.ptb_text.specs.declared.device_fault.DeviceFault.{DeviceFault}
 use Rattle.ptb_text.specs.Lines.{input_lines}
+use Rattle.ptb_text.specs.Streams.{Reads, ReadsWithin, reads_of}
+use Rattle.ptb_text.proofs.LimitedReads.{TakesUpTo, TakesUpTo_more, TakesUpTo_none, all_taken}
 use Rattle.ptb_devices.specs.CutLines.{last_line, whole_lines, Cuts, AddsLines}
-use Rattle.ptb_devices.specs.Sources.{ConsumesAtMost}
 use Rattle.ptb_devices.proofs.CutLines.{Cuts_more, input_lines-cut}
 
--- these lines were cut from the bytes that a reader gave, and so many bytes may still be taken
-pub record IsReadUpTo (old now : Option (List ℕ)) (lines : List (List ℕ)) (q : Option (List ℕ))
-    (room left : ℕ) : Type 0 where
+-- these lines were cut from the bytes that were taken so far
+pub record IsCutUpTo {R : Type 0} (limit left : ℕ) (input : Reads R) (lines : List (List ℕ))
+    (q : Option (List ℕ)) : Type 0 where
   pub bytes : List ℕ
-  pub taken : Consumes old now bytes
-  pub size : length bytes + left ≡ room
+  pub reads : TakesUpTo limit left input bytes
   pub cut : Cuts None bytes lines q
 
-pub IsReadUpTo_more : (a b c : Option (List ℕ)) (ls ms : List (List ℕ)) (q r : Option (List ℕ)) (room left : ℕ)
-    (piece : List ℕ)
-    → length piece ≤ left
-    → IsReadUpTo a b ls q room left → Consumes b c piece → AddsLines q piece ls ms r
-    → IsReadUpTo a c ms r room (left - length piece)
-IsReadUpTo_more a b c ls ms q r room left piece fits before took adds =
-    let both : Cuts None (before.bytes ++ piece) (ls ++ whole_lines q piece) r =
-    Cuts_more None q r before.bytes piece ls (whole_lines q piece) before.cut (refl, adds.1) in
-    record {
-      bytes = before.bytes ++ piece;
-      taken = Consumes-trans a b c before.bytes piece before.taken took;
-      size = omega (arith, before.size, length-append before.bytes piece);
-      cut = (both.0 ∙ sym adds.0, both.1);
-    }
+module _ {R : Type 0} (remaining : R → Option (List ℕ)) (given failures : R → ℕ) (limit : ℕ) where
+  pub IsCutUpTo_none : (r : R) → IsCutUpTo limit (limit + 1) (reads_of remaining given failures r r) [] None
+  IsCutUpTo_none r =
+      record { bytes = []; reads = TakesUpTo_none remaining given failures limit r; cut = (refl, refl) }
 
--- a call that takes more, whatever comes of it
-pub IsReadUpTo_bounded : (a b c : Option (List ℕ)) (ls : List (List ℕ)) (q : Option (List ℕ)) (room left : ℕ)
-    (piece : List ℕ)
-    → length piece ≤ left
-    → IsReadUpTo a b ls q room left → Consumes b c piece → ConsumesAtMost a c room
-IsReadUpTo_bounded a b c ls q room left piece fits before took = (
-  before.bytes ++ piece,
-  omega (arith, before.size, length-append before.bytes piece),
-  Consumes-trans a b c before.bytes piece before.taken took,
-)
+  module _ (old mid new : R) (left now : ℕ) (ls : List (List ℕ)) (q : Option (List ℕ))
+      (result : Result Piece DeviceFault) (buffer : List ℕ)
+      (before : IsCutUpTo limit left (reads_of remaining given failures old mid) ls q)
+      (step : ReadsWithin left now (reads_of remaining given failures mid new) result buffer) where
+    pub IsCutUpTo_more : (n : ℕ) → result ≡ Ok (pieces.Bytes n) → (ms : List (List ℕ)) (r : Option (List ℕ))
+        → AddsLines q (take n buffer) ls ms r
+        → IsCutUpTo limit now (reads_of remaining given failures old new) ms r
+    IsCutUpTo_more n is ms r adds =
+        let piece : List ℕ = take n buffer in
+        let both : Cuts None (before.bytes ++ piece) (ls ++ whole_lines q piece) r =
+        Cuts_more None q r before.bytes piece ls (whole_lines q piece) before.cut (refl, adds.1) in
+        record {
+          bytes = before.bytes ++ piece;
+          reads = TakesUpTo_more remaining given failures limit old mid new left now before.bytes buffer result
+              before.reads step n is;
+          cut = (both.0 ∙ sym adds.0, both.1);
+        }
 
--- a call that takes none: it failed, or gave no byte
-pub IsReadUpTo_kept : (a b c : Option (List ℕ)) (ls : List (List ℕ)) (q : Option (List ℕ)) (room left : ℕ)
-    → IsReadUpTo a b ls q room left → Keeps b c → ConsumesAtMost a c room
-IsReadUpTo_kept a b c ls q room left before kept =
-    (before.bytes, omega (arith, before.size), Consumes-kept a b c before.bytes before.taken kept)
-
-pub no_piece : (n : ℕ) (bs : List ℕ) (left : ℕ) → n ≡ 0 → length (take n bs) ≤ left
-no_piece zero bs left none = omega arith
-no_piece (suc n) bs left none = absurd (omega arith)
-
--- more bytes were there than the limit, where all that may be taken were taken
-pub IsReadUpTo_long : (a b : Option (List ℕ)) (ls : List (List ℕ)) (q : Option (List ℕ)) (limit left : ℕ) → left ≤ 0
-    → IsReadUpTo a b ls q (limit + 1) left → IfSome a (λ all. limit < length all)
-IsReadUpTo_long None b ls q limit left all_taken before = tt
-IsReadUpTo_long (Some xs) None ls q limit left all_taken before = absurd before.taken
-IsReadUpTo_long (Some xs) (Some ys) ls q limit left all_taken before =
-    omega (arith, before.size, ap length before.taken, length-append before.bytes ys)
-
--- at the end of the bytes, the lines are all of theirs
-pub IsReadUpTo_end : (a b c : Option (List ℕ)) (ls ms : List (List ℕ)) (q : Option (List ℕ)) (room left : ℕ)
-    (piece : List ℕ)
-    → length piece ≡ 0
-    → IsReadUpTo a b ls q room left → Consumes b c piece → IsAtEnd c → ms ≡ ls ++ last_line q
-    → IfSome a (λ all. ms ≡ input_lines all)
-IsReadUpTo_end a b c ls ms q room left [] none before took end last =
-    let whole : ms ≡ input_lines before.bytes =
-    last ∙ ap (λ l. l ++ last_line q) (sym before.cut.0) ∙ ap (λ s. whole_lines None before.bytes ++ last_line s)
-    (sym before.cut.1)
-    ∙ sym (input_lines-cut before.bytes) in
-    Consumes-whole a c (before.bytes ++ []) (λ all. ms ≡ input_lines all)
-    (Consumes-trans a b c before.bytes [] before.taken took) end
-    (whole ∙ ap input_lines (sym (append-nil before.bytes)))
-IsReadUpTo_end a b c ls ms q room left (x ∷ piece) none before took end last = absurd (omega arith)
+    -- at the end of the bytes, the lines are all of theirs
+    pub lines_to_here : result ≡ Ok pieces.End → (ms : List (List ℕ)) → ms ≡ ls ++ last_line q
+        → IfSome (remaining old) (λ all. ms ≡ input_lines all)
+    lines_to_here is ms last =
+        let whole : ms ≡ input_lines before.bytes =
+        last ∙ ap (λ l. l ++ last_line q) (sym before.cut.0) ∙ ap (λ s. whole_lines None before.bytes ++ last_line s)
+        (sym before.cut.1)
+        ∙ sym (input_lines-cut before.bytes) in
+        all_taken remaining given failures limit old mid new left now before.bytes buffer result before.reads step
+        is (λ all. ms ≡ input_lines all) whole

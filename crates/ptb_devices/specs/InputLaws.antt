@@ -10,13 +10,14 @@ use Rattle.std.proofs.Math.Seq.{take-nil}
 use Rattle.std.proofs.lemmas.List.{take_all}
 use Rattle.std.specs.Io.KnownBytes.{Consumes}
 use Rattle.std.proofs.KnownBytes.{Consumes-nil, Consumes-trans}
-use Rattle.ptb_text.specs.Device.{HasFailed}
+use Rattle.ptb_text.specs.Device.{HasFailed, IsCounted}
+use Rattle.ptb_text.proofs.ByteCounts.{IsCounted_more, IsCounted_none}
 use Rattle.ptb_devices.specs.declared.line_buffer.InputEnd.{InputEnd}
 use Rattle.ptb_devices.specs.declared.line_buffer.InputEnd.TheVariants.{Open, Ended, Failed, Exceeded}
 use Rattle.ptb_devices.specs.CutLines.{whole_lines, last_piece, last_line, Cuts}
 use Rattle.ptb_devices.specs.CutLineLaws.{whole_lines-append, last_piece-append}
 use Rattle.ptb_devices.specs.Sources.{Loses, NoneLeft}
-use Rattle.ptb_devices.specs.Inputs.{InputNow, IsCounted, open_piece, cut_at_end, ends_within}
+use Rattle.ptb_devices.specs.Inputs.{InputNow, open_piece, cut_at_end, ends_within}
 use Rattle.ptb_devices.specs.Inputs.{lines_to_end, most_to_come, most_lines, known_lines}
 use Rattle.ptb_devices.specs.Inputs.{IsReadAhead, ReadsOn, asked}
 
@@ -44,28 +45,6 @@ HasFailed_later f g h first second (inr p) = at_least (eq-or-lt_of_le first) whe
   at_least : (f ≡ g) ⊎ (f < g) → HasFailed f h
   at_least (inl q) = inr (q ∙ p)
   at_least (inr q) = inl (omega arith)
-
--- what is counted in parts is counted in the whole
-pub IsCounted_none : (a : ℕ) → IsCounted a a 0
-IsCounted_none a = record { at_most = (omega arith, omega arith); exactly = λ some. absurd (omega arith) }
-
-IsCounted_more : (a b c n k : ℕ) → IsCounted a b n → IsCounted b c k → IsCounted a c (n + k)
-IsCounted_more a b c zero zero first second = record {
-  at_most = (omega (arith, first.at_most.0, second.at_most.0), omega (arith, first.at_most.1, second.at_most.1));
-  exactly = λ some. absurd (omega arith);
-}
-IsCounted_more a b c zero (suc k) first second = record {
-  at_most = (omega (arith, first.at_most.0, second.at_most.0), omega (arith, first.at_most.1, second.at_most.1));
-  exactly = λ _. omega (arith, first.at_most.0, first.at_most.1, second.exactly (omega arith));
-}
-IsCounted_more a b c (suc n) zero first second = record {
-  at_most = (omega (arith, first.at_most.0, second.at_most.0), omega (arith, first.at_most.1, second.at_most.1));
-  exactly = λ _. omega (arith, first.exactly (omega arith), second.at_most.0, second.at_most.1);
-}
-IsCounted_more a b c (suc n) (suc k) first second = record {
-  at_most = (omega (arith, first.at_most.0, second.at_most.0), omega (arith, first.at_most.1, second.at_most.1));
-  exactly = λ _. omega (arith, first.exactly (omega arith), second.exactly (omega arith));
-}
 
 -- bytes that end within what was left of an input did so before
 within_before : (a b : Option (List ℕ)) (taken : List ℕ) (k l : ℕ) → length taken + l ≡ k → Consumes a b taken

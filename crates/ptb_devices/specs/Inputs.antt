@@ -11,7 +11,6 @@
 --     CutsLine a b, CutsAll a b      a line was cut from what has come; all of it was cut, and it ended no line
 --     TakesLine a line b             this line was taken from what has come, and is not kept
 --     TakesWhole a line b            the same for a line that may be there: without one, nothing was done
---     IsCounted old new n            so many bytes were given, as a reader counts them
 --     IsReadAhead a taken most       these bytes were taken because fewer than so many lines were whole before the last
 --                                    read
 --     ReadsOn wanted m given n       the input continued from m to n, and gave these lines; so many more were asked for
@@ -22,7 +21,7 @@ use Rattle.std.specs.Prelude.{if◌then◌else◌, List, [], ◌∷◌, ◌++◌
 use Rattle.std.specs.Prelude.{option_map, IfSome}
 use Rattle.std.specs.Borrow.{Bor}
 use Rattle.std.specs.Io.KnownBytes.{Consumes}
-use Rattle.ptb_text.specs.Device.{GivesAtMost, GivesExactly, HasFailed}
+use Rattle.ptb_text.specs.Device.{HasFailed, IsCounted}
 use Rattle.ptb_devices.specs.declared.line_buffer.InputEnd.{InputEnd}
 use Rattle.ptb_devices.specs.declared.line_buffer.InputEnd.TheVariants.{Open, Ended, Failed, Exceeded}
 use Rattle.ptb_text.specs.declared.device_fault.DeviceFault.{DeviceFault}
@@ -135,11 +134,6 @@ known_lines n = option_map (lines_left n.state) n.bytes
 abbrev pub input_now : {R : Type 0} → (R → Option (List ℕ)) → (R → ℕ) → (R → ℕ) → InputState → R → InputNow
 input_now remaining given failures state reader =
     record { state = state; bytes = remaining reader; given = given reader; failures = failures reader }
-
--- so many bytes were given, by a count that is known to be within its limit once some were
-pub record IsCounted (old new n : ℕ) : Type 0 where
-  pub at_most : GivesAtMost old new n
-  pub exactly : 0 < n → GivesExactly old new n
 
 -- the last read gave at most as many bytes as the buffer has, and before it fewer than so many lines were whole
 pub record IsReadAhead (a : InputState) (taken : List ℕ) (most : ℕ) : Type 0 where

@@ -13,7 +13,7 @@ ghost use Rattle.ptb_devices.specs.Inputs.{CutsLine, CutsAll, TakesWhole, ReadsO
 
 use crate::cutter::{LINE_LIMIT, LineCutter, stays};
 use crate::whole_input::{BUFFER_SIZE, INPUT_LIMIT};
-use ptb_text::{DeviceFault, Read};
+use ptb_text::{Allowance, DeviceFault, Piece, Read};
 use std::marker::Model;
 
 /// How an input continues.
@@ -39,7 +39,7 @@ pub(crate) struct LineBuffer {
     /// Nothing came after this place.
     to: usize,
     /// How many bytes may still be taken. The last of them only shows that the input is too long.
-    left: usize,
+    left: Allowance,
     cutter: LineCutter,
     /// Whether the piece in the cutter was given as a line.
     is_given: bool,
@@ -72,7 +72,7 @@ impl LineBuffer {
             bytes: [0; BUFFER_SIZE],
             from: 0,
             to: 0,
-            left: INPUT_LIMIT + 1,
+            left: Allowance::new(INPUT_LIMIT),
             cutter: LineCutter::new(),
             is_given: false,
             end: InputEnd::Open,
@@ -176,26 +176,23 @@ impl LineBuffer {
             InputEnd::Failed => return Err(DeviceFault::Read),
             InputEnd::Exceeded => return Err(DeviceFault::TooLong),
         }
-        let room = (self.left - 1).clamp(1, BUFFER_SIZE);
-        match reader.read(&mut self.bytes[..room]) {
-            Err(_) => {
-                self.end = InputEnd::Failed;
-                Err(DeviceFault::Read)
-            }
-            Ok(0) => {
+        match self.left.read(reader, &mut self.bytes) {
+            Ok(Piece::End) => {
                 self.end = InputEnd::Ended;
                 Ok(false)
             }
-            Ok(_) if self.left == 1 => {
-                self.left = 0;
+            Ok(Piece::Bytes(count)) => {
+                self.from = 0;
+                self.to = count;
+                Ok(true)
+            }
+            Ok(Piece::TooLong) => {
                 self.end = InputEnd::Exceeded;
                 Err(DeviceFault::TooLong)
             }
-            Ok(count) => {
-                self.from = 0;
-                self.to = count;
-                self.left -= count;
-                Ok(true)
+            Err(_) => {
+                self.end = InputEnd::Failed;
+                Err(DeviceFault::Read)
             }
         }
     }

@@ -9,7 +9,7 @@ ghost use Rattle.ptb_devices.specs.Sources.{IsSourceFault};
 
 use crate::cutter::LineCutter;
 use crate::lines::Line;
-use ptb_text::{DeviceFault, Read};
+use ptb_text::{Allowance, DeviceFault, Piece, Read};
 use std::alloc::{AllocError, Global};
 
 /// How many bytes an input may have.
@@ -38,18 +38,19 @@ pub fn read_lines<R: Read>(alloc: Global, reader: &mut R) -> Result<Vec<Line>, D
     let mut buffer = [0; BUFFER_SIZE];
     let mut cutter = LineCutter::new();
     let mut lines = Vec::new(alloc);
-    let mut left = INPUT_LIMIT + 1;
-    while left > 0 {
-        let room = left.min(BUFFER_SIZE);
-        let count = reader.read(&mut buffer[..room])?;
-        if count == 0 {
-            push_last(alloc, &mut lines, &cutter)?;
-            return Ok(lines);
+    let mut left = Allowance::new(INPUT_LIMIT);
+    loop {
+        match left.read(reader, &mut buffer)? {
+            Piece::End => {
+                push_last(alloc, &mut lines, &cutter)?;
+                return Ok(lines);
+            }
+            Piece::Bytes(count) => {
+                push_whole(alloc, &mut lines, &mut cutter, &buffer[..count])?;
+            }
+            Piece::TooLong => return Err(DeviceFault::TooLong),
         }
-        push_whole(alloc, &mut lines, &mut cutter, &buffer[..count])?;
-        left -= count;
     }
-    Err(DeviceFault::TooLong)
 }
 
 /// Adds the lines that these bytes end.

@@ -1,23 +1,39 @@
 -- This file proves how the counts of bytes add up while a reader is read in pieces.
--- Main lemma: `IsCountedUpTo_more`.
-use Rattle.std.proofs.Common.{ℕ, ◌+◌, ◌<◌, ◌≤◌, arith, inl, inr}
-use Rattle.std.proofs.lemmas.Bool.{cases_lt}
-use Rattle.ptb_text.specs.Device.{GivesAtMost, GivesExactly, given_limit}
+-- Main lemmas: `IsCounted_more` and `IsCounted_read`.
+use Rattle.std.proofs.Common.{◌≡◌, ℕ, zero, suc, ◌+◌, ◌≤◌, arith}
+use Rattle.ptb_text.specs.Device.{GivesExactly, IsCounted, given_limit}
 
--- n bytes were given so far; that the count is within its limit is known from the first read on
-pub record IsCountedUpTo (old new n : ℕ) : Type 0 where
-  pub at_most : GivesAtMost old new n
-  pub exactly : 0 < n → GivesExactly old new n
+-- what is counted in parts is counted in the whole
+pub IsCounted_none : (a : ℕ) → IsCounted a a 0
+IsCounted_none a = record { at_most = (omega arith, omega arith); exactly = λ some. absurd (omega arith) }
 
-pub IsCountedUpTo_none : (a : ℕ) → IsCountedUpTo a a 0
-IsCountedUpTo_none a = record { at_most = (omega arith, omega arith); exactly = λ some. absurd (omega arith) }
+pub IsCounted_more : (a b c n k : ℕ) → IsCounted a b n → IsCounted b c k → IsCounted a c (n + k)
+IsCounted_more a b c zero zero first second = record {
+  at_most = (omega (arith, first.at_most.0, second.at_most.0), omega (arith, first.at_most.1, second.at_most.1));
+  exactly = λ some. absurd (omega arith);
+}
+IsCounted_more a b c zero (suc k) first second = record {
+  at_most = (omega (arith, first.at_most.0, second.at_most.0), omega (arith, first.at_most.1, second.at_most.1));
+  exactly = λ _. omega (arith, first.at_most.0, first.at_most.1, second.exactly (omega arith));
+}
+IsCounted_more a b c (suc n) zero first second = record {
+  at_most = (omega (arith, first.at_most.0, second.at_most.0), omega (arith, first.at_most.1, second.at_most.1));
+  exactly = λ _. omega (arith, first.exactly (omega arith), second.at_most.0, second.at_most.1);
+}
+IsCounted_more a b c (suc n) (suc k) first second = record {
+  at_most = (omega (arith, first.at_most.0, second.at_most.0), omega (arith, first.at_most.1, second.at_most.1));
+  exactly = λ _. omega (arith, first.exactly (omega arith), second.exactly (omega arith));
+}
 
-pub IsCountedUpTo_more : (a b c n k : ℕ) → IsCountedUpTo a b n → b ≤ given_limit → GivesExactly b c k
-    → IsCountedUpTo a c (n + k)
-IsCountedUpTo_more a b c n k before within gives = record {
-  at_most = (omega (arith, before.at_most.0, gives), omega (arith, before.at_most.1, gives));
-  exactly = λ _. elim (cases_lt 0 n) [
-    | inl some ↦ omega (arith, before.exactly some, gives, within)
-    | inr none ↦ omega (arith, before.at_most.0, before.at_most.1, none, gives, within)
-  ];
+-- what a read counts
+pub IsCounted_read : (x y n : ℕ) → x ≤ given_limit → GivesExactly x y n → IsCounted x y n
+IsCounted_read x y n within gives = record {
+  at_most = (omega (arith, within, gives), omega (arith, gives));
+  exactly = λ _. gives;
+}
+
+pub IsCounted_fault : (x y : ℕ) → y ≡ x → IsCounted x y 0
+IsCounted_fault x y same = record {
+  at_most = (omega (arith, same), omega (arith, same));
+  exactly = λ some. absurd (omega arith);
 }

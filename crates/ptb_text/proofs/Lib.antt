@@ -21,6 +21,6 @@ pub mod Sound
 pub mod Stored
 pub mod StoredTexts
 pub mod TakenPieces
-pub mod WholeText
 pub mod ByteCounts
+pub mod LimitedReads
 pub mod NextByte

@@ -8,6 +8,7 @@
 --     GivesExactly old new n             n bytes more were given
 --     GivesAtMost old new n              at most n bytes more were given
 --     CountsBytes old new result         the bytes of a read are counted, and a fault gives none
+--     IsCounted old new n                so many bytes were given over several reads, or none
 --     device_inner d                     the device that is counted
 --     failure_count d, given_count d     how often it has failed, and how many bytes it has given
 --     IsReliableDevice reliable d        the device's reader is reliable
@@ -62,6 +63,11 @@ GivesAtMost old new n = (old ≤ new) × (new ≤ old + n)
 -- the bytes that a read answers are counted, and a fault gives none
 abbrev pub CountsBytes : {E : Type 0} → ℕ → ℕ → Result ℕ E → Type 0
 CountsBytes old new result = (old ≤ given_limit) × MatchResult result (GivesExactly old new) (λ _. new ≡ old)
+
+-- so many bytes were given, by a count that is known to be within its limit once some were
+pub record IsCounted (old new n : ℕ) : Type 0 where
+  pub at_most : GivesAtMost old new n
+  pub exactly : 0 < n → GivesExactly old new n
 
 -- the reader or writer that is counted
 abbrev pub device_inner : {T : Type 0} → Device T → T

@@ -1,13 +1,15 @@
-//! Texts of Tiny BASIC: readers and writers; words, letters, numbers and quotations at a place of a
-//! text, and the cursor that finds them; the lines of a program text, and the statements under their
-//! numbers.
+//! Texts of Tiny BASIC: readers and writers, and reading within a limit; words, letters, numbers and
+//! quotations at a place of a text, and the cursor that finds them; the lines of a program text, and
+//! the statements under their numbers.
 //!
 //! It stands on `arrayvec`, `itoa`, `thiserror` and std. The crate above may rely on `Cursor` (each
 //! call finds what `specs/Words` says is at its place, and takes only that), on `finding_laws`, on
 //! `load` (the statements that a text has, or which of its lines is refused first), on the look-ups of
-//! `Program`, and on `OutputBuffer` (a writer gets what was put into it, in this order).
+//! `Program`, on `OutputBuffer` (a writer gets what was put into it, in this order), and on
+//! `Allowance` (a reader is read within a limit, and one byte shows that it has more).
 #![tactic(auto)]
 
+mod allowance;
 mod byte_buffer;
 mod byte_streams;
 mod cursor;
@@ -25,6 +27,7 @@ mod spelling;
 mod word;
 mod word_laws;
 
+pub use allowance::{Allowance, Piece};
 pub use byte_buffer::ByteBuffer;
 pub use byte_streams::{ByteSink, ByteSource};
 pub use cursor::{Cursor, is_all_blank, number_in_front};

@@ -9,6 +9,7 @@ ghost use Rattle.ptb_text.specs.Loading.{FailsToLoad, HasTextAt, Loads, ReadsPro
 ghost use Rattle.ptb_text.specs.Statements.{IsMemorySize, after_lines, program_limit};
 ghost use Rattle.ptb_text.specs.Streams.{reads_of};
 
+use crate::allowance::{Allowance, Piece};
 use crate::{LoadFault, Program, Read};
 use std::alloc::Global;
 
@@ -16,7 +17,7 @@ use std::alloc::Global;
 const PROGRAM_LIMIT: usize = 1_048_576;
 
 /// One page, so that few reads are needed and the buffer stays on the stack.
-const PIECE: usize = 4096;
+const BUFFER_SIZE: usize = 4096;
 
 /// Loads a program text into a program that is given this memory, 64 to 32767.
 ///
@@ -56,20 +57,20 @@ fn program_text<R: Read>(alloc: Global, reader: &mut R) -> Result<Vec<u8>, (u32,
     ensures sure { R.reliable reader.old → ¬ FailsToLoad result LoadFault.Read }
 {
     let mut text = Vec::new(alloc);
-    let mut piece = [0; PIECE];
-    while text.len() <= PROGRAM_LIMIT {
-        let room = PIECE.min(PROGRAM_LIMIT + 1 - text.len());
-        let Ok(taken) = reader.read(&mut piece[..room]) else {
-            return Err((0, LoadFault::Read));
-        };
-        if taken == 0 {
-            return Ok(text);
-        }
-        if text.extend_from_slice(&piece[..taken]).is_err() {
-            return Err((0, LoadFault::Memory));
+    let mut buffer = [0; BUFFER_SIZE];
+    let mut left = Allowance::new(PROGRAM_LIMIT);
+    loop {
+        match left.read(reader, &mut buffer) {
+            Ok(Piece::End) => return Ok(text),
+            Ok(Piece::Bytes(count)) => {
+                if text.extend_from_slice(&buffer[..count]).is_err() {
+                    return Err((0, LoadFault::Memory));
+                }
+            }
+            Ok(Piece::TooLong) => return Err((0, LoadFault::TooLong)),
+            Err(_) => return Err((0, LoadFault::Read)),
         }
     }
-    Err((0, LoadFault::TooLong))
 }
 
 // A program text is read with its tabs as spaces.
