@@ -13,6 +13,7 @@ pub use Rattle.ptb_text.specs.CursorState
 pub use Rattle.ptb_text.specs.Words
 pub use Rattle.ptb_text.specs.Finding
 pub mod TreeSteps
+pub mod Stops
 pub mod Direct
 pub mod Actions
 pub mod Starts

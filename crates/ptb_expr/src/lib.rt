@@ -25,6 +25,7 @@ mod saved;
 mod short;
 mod step;
 mod step_runner;
+mod stopped;
 mod store;
 mod translation;
 mod values;
