@@ -727,6 +727,7 @@ const PLAIN_VALUES: &[(&str, i16, usize)] = &[
     ("1+1+1+1+1+1+1+1+1+1+1+1+1+1+1+1+1+1+1+1+1+1+1+1", 24, 47),
     ("A-(A-(A-(A-(A-(A-(A-(A-(A-(A-(A-(A-0)))))))))))", 0, 47),
     ("1+1+1+1+1+1+1+1+1+1+1+1+1+1+1+1+1+1+1+1+1+1+1+1+1", 25, 49),
+    ("A-(A-(A-(A-(A-(A-(A-(A-(A-(A-(A-(A-(A-0))))))))))))", 5, 51),
 ];
 
 // An expression that asks nothing and has a value has it plainly, while it is read, and otherwise, too.
@@ -777,16 +778,6 @@ fn not_plain(rt: HostRuntime) {
         expect_same(&rt, text, found, None);
         expect_direct(&rt, &store, text.as_bytes(), None);
     }
-}
-
-// Too many values wait in these steps; nothing waits where no step is made.
-#[test]
-fn many_values_wait(rt: HostRuntime) {
-    let store = lettered_store(&rt, rt.alloc());
-    let text = b"A-(A-(A-(A-(A-(A-(A-(A-(A-(A-(A-(A-(A-0))))))))))))";
-    let (_, found) = plainly(&rt, &store, text);
-    expect_same(&rt, "steps", found, None);
-    expect_direct(&rt, &store, text, Some(5));
 }
 
 // The value of the expression at the front of a text by its short form. `None` if it asks, and
