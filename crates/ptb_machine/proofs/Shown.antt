@@ -3,11 +3,13 @@
 use Rattle.std.proofs.Common.{◌≡◌, ℕ, suc, ◌+◌, ◌-◌, ◌≤◌, ◌<◌, Bool, List, [], ◌∷◌, ◌++◌, length}
 use Rattle.std.proofs.Common.{take, drop, Result, Err, refl, sym, ap, subst, ◌∙◌, append-nil}
 use Rattle.std.proofs.Common.{append_assoc, arith, length-append, take-append-drop, inl, ℤ, pos}
-use Rattle.std.proofs.Common.{negsuc, Ok}
+use Rattle.std.proofs.Common.{negsuc, Ok, FitsSigned, w16}
 use native.Mathlib.Decide.{dec_lt}
 use Rattle.std.proofs.lemmas.Bool.{le-leb, lt-leb}
 use Rattle.std.proofs.Math.Dec.{eqb-suc-zero}
-use Rattle.std.proofs.lemmas.List.{get_or-append-add, take-replicate}
+use Rattle.std.proofs.lemmas.List.{get_or-append-add, take-replicate, length-replicate, replicate-append-replicate}
+use Rattle.std.proofs.lemmas.Fmt.{length-decimal-le}
+use Rattle.std.proofs.Math.Seq.{drop-append_seam}
 use Rattle.std.specs.Prelude.{◌==◌, ◌||◌, if◌then◌else◌, slice_index, IsErrOf, IsTrue, unsigned_abs, replicate}
 use Rattle.ptb_text.specs.Device.{HasFailed, TakesSome}
 use Rattle.ptb_expr.specs.Store.{Cells}
@@ -123,14 +125,36 @@ shown_as o n s bytes r e h = subst (λ (x : List ℕ). Comes nothing_refused o n
 
 -- ---- widths
 
--- digits after the first `start` of 255 blanks
-pub padded-is : (w : ℕ) (v : ℤ) (digits : List ℕ) (start : ℕ) → digits ≡ signed_decimal v → start ≡ w - length digits
-    → w ≤ width_limit → take start (replicate 255 32) ++ digits ≡ padded_decimal w v
-padded-is w v digits start e k h =
-    let fits : start ≤ 255 = omega (arith, k) in
-    ap (λ l. l ++ digits) (take-replicate start 255 32 fits)
-    ∙ ap (λ n. replicate n 32 ++ digits) k
-    ∙ ap (λ s. replicate (w - length s) 32 ++ s) e
+pub short_decimal : (v : ℤ) → FitsSigned w16 v → length (signed_decimal v) ≤ 6
+short_decimal (pos n) h = let fits = h.sfits in
+    omega (arith, length-decimal-le 5 n (omega arith) (omega arith) (omega arith))
+short_decimal (negsuc n) h = let fits = h.sfits in
+    omega (arith, length-decimal-le 5 (suc n) (omega arith) (omega arith) (omega arith))
+
+-- the decimals s end after 16 bytes that were blanks; the first k of these go, and some of 239 blanks come before
+pub padded_parts : (s text : List ℕ) (start k before w : ℕ) → start + length s ≡ 16
+    → drop start text ≡ s ++ drop 16 (replicate 16 32) → take start text ≡ take start (replicate 16 32) → k ≤ start
+    → before ≤ 239 → before + (start - k) ≡ w - length s
+    → take before (replicate 239 32) ++ drop k text ≡ replicate (w - length s) 32 ++ s
+padded_parts s text start k before w ends written same few fits size =
+    let short : start ≤ 16 = omega (arith, ends) in
+    let parts : k + (start - k) ≡ start = omega (arith, few) in
+    let whole : text ≡ replicate k 32 ++ (replicate (start - k) 32 ++ s) =
+    sym (take-append-drop start text)
+    ∙ ap (λ (x : List ℕ). x ++ drop start text) (same ∙ take-replicate start 16 32 short)
+    ∙ ap (λ (x : List ℕ). replicate start 32 ++ x) (written ∙ append-nil s)
+    ∙ ap (λ (n : ℕ). replicate n 32 ++ s) (sym parts)
+    ∙ ap (λ (x : List ℕ). x ++ s) (sym (replicate-append-replicate k (start - k) 32))
+    ∙ append_assoc (replicate k 32) (replicate (start - k) 32) s in
+    let rest : drop k text ≡ replicate (start - k) 32 ++ s =
+    ap (λ (x : List ℕ). drop k x) whole
+    ∙ ap (λ (n : ℕ). drop n (replicate k 32 ++ (replicate (start - k) 32 ++ s))) (sym (length-replicate k 32))
+    ∙ drop-append_seam (replicate k 32) (replicate (start - k) 32 ++ s) in
+    ap (λ (x : List ℕ). x ++ drop k text) (take-replicate before 239 32 fits)
+    ∙ ap (λ (x : List ℕ). replicate before 32 ++ x) rest
+    ∙ sym (append_assoc (replicate before 32) (replicate (start - k) 32) s)
+    ∙ ap (λ (x : List ℕ). x ++ s) (replicate-append-replicate before (start - k) 32)
+    ∙ ap (λ (n : ℕ). replicate n 32 ++ s) size
 
 pub wide_enough : (z : ℤ) (n : ℕ) → FitsUnsignedBits 8 z → n ≡ unsigned_abs z → width_of z ≡ Ok n
 wide_enough (pos m) n h e =

@@ -1,12 +1,12 @@
 // This file has the devices of a command, taken together.
 
-ghost use Rattle.std.specs.Prelude.{◌≡◌, List, ℕ, []};
+ghost use Rattle.std.specs.Prelude.{◌≡◌, ◌≤◌, ◌+◌, List, ℕ, [], length, IsOk};
 ghost use Rattle.ptb_expr.specs.Store.{Cells};
 ghost use Rattle.ptb_machine.specs.Actions.{goes_on, show as show_action};
 ghost use Rattle.ptb_machine.specs.Devices.{nothing_refused};
 ghost use Rattle.ptb_machine.specs.Stops.{Comes};
 
-use crate::pending_output::PendingOutput;
+use crate::pending_output::{PENDING_LIMIT, PendingOutput};
 use crate::stop::Stop;
 use ptb_answers::{Chooser, Rules};
 use ptb_devices::{LineSource, Screen};
@@ -66,6 +66,27 @@ impl<'a, C: Chooser, S: Screen, L: LineSource> CommandIo<'a, C, S, L> {
         ensures same { SameDevices self.old self.new }
     {
         pending.show(self.screen, &mut self.fresh, bytes)
+    }
+
+    /// Shows what was gathered if there is no room for so many bytes more.
+    #[inline(always)]
+    pub(crate) fn make_room(
+        &mut self,
+        pending: &mut PendingOutput,
+        count: usize,
+    ) -> Result<(), Stop>
+        ensures comes { (given : List (List ℕ)) (cells : Cells) → Comes nothing_refused
+            (due_trace C.choices S.Screen L.most self.old given cells pending.old)
+            (due_trace C.choices S.Screen L.most self.new given cells pending.new)
+            (goes_on tt) goes_on result }
+        ensures room { count ≤ PENDING_LIMIT → IsOk result → length pending.new + count ≤ PENDING_LIMIT }
+        ensures kept { length pending.old + count ≤ PENDING_LIMIT → pending.new ≡ pending.old }
+        ensures same { SameDevices self.old self.new }
+    {
+        if pending.room() < count {
+            self.flush(pending)?;
+        }
+        Ok(())
     }
 
     /// Shows what was gathered. Nothing is gathered then, also where the screen fails.

@@ -57,6 +57,7 @@ pub use command_io::CommandIo;
 pub use command_order::command_laws;
 pub use complete_run::{run, run_to_end};
 pub use ending::Ending;
+pub use execution::context::Context;
 pub use execution::print::Output;
 pub use fault::RunFault;
 pub use fault_words::fault_line;

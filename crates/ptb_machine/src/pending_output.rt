@@ -48,6 +48,23 @@ impl PendingOutput {
         self.buffer.as_slice()
     }
 
+    /// How many bytes there is still room for.
+    #[inline(always)]
+    pub(crate) fn room(&self) -> usize
+        ensures { length self.now + result ≡ PENDING_LIMIT }
+    {
+        self.buffer.room()
+    }
+
+    /// Takes bytes for all of which there is room.
+    #[inline(always)]
+    pub(crate) fn append(&mut self, bytes: &[u8])
+        requires { length self.old + length bytes.now ≤ PENDING_LIMIT }
+        ensures { self.new ≡ self.old ++ bytes.now }
+    {
+        self.buffer.append(bytes);
+    }
+
     /// Takes what was gathered away.
     #[inline(always)]
     pub(crate) fn clear(&mut self)
@@ -64,23 +81,6 @@ impl PendingOutput {
         ensures room { IsTrue result ↔ (length self.old + length bytes.now ≤ PENDING_LIMIT) }
     {
         self.buffer.try_append(bytes)
-    }
-
-    /// Takes bytes and others after them, if there is room for all of them. Whether there was.
-    #[inline(always)]
-    pub(crate) fn try_append_both(&mut self, first: &[u8], second: &[u8]) -> bool
-        ensures taken { IsTrue result → self.new ≡ self.old ++ first.now ++ second.now }
-        ensures full { IsFalse result → self.new ≡ self.old }
-        ensures room { IsTrue result ↔
-            (length self.old + (length first.now + length second.now) ≤ PENDING_LIMIT) }
-    {
-        let room = self.buffer.room();
-        if first.len() > room || second.len() > room - first.len() {
-            return false;
-        }
-        self.buffer.append(first);
-        self.buffer.append(second);
-        true
     }
 
     /// Shows what was gathered. Nothing is gathered then, also where the screen fails.

@@ -7,7 +7,8 @@ ghost use Rattle.ptb_text.specs.Words.{is_letter};
 use ptb_devices::{LineSource, Screen};
 use ptb_expr::{Chooser, Store};
 use ptb_machine::{
-    CommandCode, CommandIo, Output, Registers, Rules, Stack, Stop, first_place, line_at, translate,
+    CommandCode, CommandIo, Context, Output, Registers, Rules, Stack, Stop, first_place, line_at,
+    translate,
 };
 use ptb_text::{ByteSink, ByteSource, Cursor, Device, Letter, Program, load};
 use std::alloc::{AllocError, Global};
@@ -167,8 +168,13 @@ pub(crate) fn execute_with<C: Chooser, S: Screen, L: LineSource>(
     let mut cursor = Cursor::new(text, 0);
     let mut code = CommandCode::new();
     translate(&mut cursor, &mut code);
-    let (operations, steps) = (code.operations(), code.steps());
-    registers.execute(program, 0, operations, steps, io, output)
+    let context = Context {
+        program,
+        statement: 0,
+        operations: code.operations(),
+        steps: code.steps(),
+    };
+    registers.execute(context, io, output)
 }
 
 // The place in its statement at which a run continues after a command that was done so.

@@ -1,6 +1,6 @@
 // This file shows what the operations of a command show.
 
-ghost use Rattle.std.specs.Prelude.{◌≡◌, ◌++◌, ◌∷◌, [], ℕ, ℤ, Bool, List};
+ghost use Rattle.std.specs.Prelude.{◌≡◌, ◌+◌, ◌≤◌, ◌++◌, ◌∷◌, [], ℕ, ℤ, Bool, List, length, take, drop};
 ghost use Rattle.std.specs.Fmt.{signed_decimal};
 ghost use Rattle.ptb_expr.specs.Store.{Cells};
 ghost use Rattle.ptb_expr.specs.Tree.{Tree};
@@ -17,9 +17,9 @@ ghost use Rattle.ptb_machine.specs.Traces.{Trace, trace, with_due};
 use crate::command_io::CommandIo;
 use crate::execution::values::short_value;
 use crate::operation::{Expression, Literal, Range};
-use crate::pending_output::PendingOutput;
+use crate::pending_output::{PENDING_LIMIT, PendingOutput};
 use crate::stop::{Stop, fault};
-use itoa::Buffer;
+use itoa::write_digits;
 use ptb_answers::Chooser;
 use ptb_devices::{LineSource, Screen};
 use ptb_expr::{FaultKind, Step, Steps, Store};
@@ -27,11 +27,14 @@ use ptb_expr::{FaultKind, Step, Steps, Store};
 /// The width of the values at the start of each command.
 pub const FIRST_WIDTH: u8 = 6;
 
-/// The greatest width.
-const WIDTH_LIMIT: usize = 255;
+/// How many bytes the decimals of a value have at most.
+const DECIMALS: usize = 6;
 
-/// The blanks of a value: as many as the greatest width has.
-static BLANKS: [u8; WIDTH_LIMIT] = [b' '; WIDTH_LIMIT];
+/// How many bytes of a value are written at once: its decimals, and blanks before them.
+const TEXT: usize = 16;
+
+/// The blanks before these bytes, at most.
+static BLANKS: [u8; 239] = [b' '; 239];
 
 /// What a command has gathered, and the width of the values that it shows. It is lent to one command
 /// after the other: to make one takes longer than to begin again with it.
@@ -99,13 +102,34 @@ fn width_of(value: i16, mark: usize) -> Result<u8, Stop>
     }
 }
 
-// The blanks before the digits of a value, up to the width.
-fn blanks_before(digits: &[u8], width: u8) -> &'static [u8]
-    ensures { (v : ℤ) → digits.now ≡ signed_decimal v →
-        result.now ++ digits.now ≡ padded_decimal width v }
+// Writes the decimals of a value, which end at a place. Where they begin.
+#[inline(always)]
+fn write_decimal(value: i16, bytes: &mut [u8], to: usize) -> usize
+    requires { (length (signed_decimal value) ≤ to) × (to ≤ length bytes.old) }
+    ensures start { result + length (signed_decimal value) ≡ to }
+    ensures written { drop result bytes.new ≡ signed_decimal value ++ drop to bytes.old }
+    ensures before { take result bytes.new ≡ take result bytes.old }
 {
-    let count = usize::from(width).saturating_sub(digits.len());
-    &BLANKS[..count]
+    let start = write_digits(u64::from(value.unsigned_abs()), bytes, to);
+    if value >= 0 {
+        return start;
+    }
+    bytes[start - 1] = b'-';
+    start - 1
+}
+
+// Gathers a value with blanks before it up to the width.
+#[inline(always)]
+fn gather_value(pending: &mut PendingOutput, width: u8, value: i16)
+    requires { length pending.old + (width + DECIMALS) ≤ PENDING_LIMIT }
+    ensures { pending.new ≡ pending.old ++ padded_decimal width value }
+{
+    let mut text = [b' '; TEXT];
+    let start = write_decimal(value, &mut text, TEXT);
+    let width = usize::from(width);
+    let before = width.saturating_sub(TEXT);
+    pending.append(&BLANKS[..before]);
+    pending.append(&text[start.min(TEXT - (width - before))..]);
 }
 
 // Shows a value with blanks before it up to the width.
@@ -124,14 +148,8 @@ fn show_value<C: Chooser, S: Screen, L: LineSource>(
         (show (padded_decimal width value)) goes_on result }
     ensures same { SameDevices io.old io.new }
 {
-    let mut buffer = Buffer::new();
-    let digits = buffer.format(value).as_bytes();
-    let blanks = blanks_before(digits, width);
-    // most values find room with their blanks
-    if !pending.try_append_both(blanks, digits) {
-        io.show(pending, blanks)?;
-        io.show(pending, digits)?;
-    }
+    io.make_room(pending, usize::from(width) + DECIMALS)?;
+    gather_value(pending, width, value);
     Ok(())
 }
 

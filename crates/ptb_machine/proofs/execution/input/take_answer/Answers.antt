@@ -33,7 +33,7 @@ returns-in_default-take_ready-clause-comes g c =
         λ before x prompt is.
             comes_after _ _ _
             (fewer_left (due_trace g.C.Chooser.choices g.S.Screen g.L.LineSource.most c.args.io.now before
-            c.args.store.now c.args.pending.now) (g.L.LineSource.most u) fewer
+            c.args.store.now c.args.output.now.pending) (g.L.LineSource.most u) fewer
             (item_action c.args.request.now.said.now x prompt)) _ (later.1.1 before x prompt is),
       ),
     )
@@ -48,8 +48,8 @@ returns-in_err-store_answer-clause-comes g c =
     let some : ready_lines c.take_ready.result ≡ line ∷ [] = ap ready_lines c.in-Some-take_ready.is in
     let letter = c.in-Some.ensures.letter in
     let named : NamesOne c.args.request.now.destination = subst NamesOne (sym letter) tt in
-    let shown = c.try_append.ensures.taken (c.try_append.ensures.room.1 (c.in-Some.ensures.room refl))
-    ∙ ap (λ (k : List ℕ). c.args.pending.now ++ (k ++ 58 ∷ [])) (sym c.in-Some.ensures.name) in
+    let shown = c.append.ensures
+    ∙ ap (λ (k : List ℕ). c.args.output.now.pending ++ (k ++ 58 ∷ [])) (sym c.in-Some.ensures.name) in
     let gives = gives_one_more g.L.LineSource.gives g.met.L.LineSource.gives_more s s u [] line
     (Ok c.take_ready.result) some (g.met.L.LineSource.gives_none s) c.take_ready.follows.holds-at-none.0 in
     let fewer = falls_one g.L.LineSource.gives g.L.LineSource.most g.met.L.LineSource.falls s u
@@ -61,12 +61,12 @@ returns-in_err-store_answer-clause-comes g c =
             answering_fails c.args.request.now.said.now x prompt (refines_part_refl _ _) _
             (letter_asked c.args.request.now.said.now x prompt c.args.request.now.name.now
             (io_trace g.C.Chooser.choices g.S.Screen g.L.LineSource.most c.args.io.now before c.args.store.now)
-            c.args.pending.now c.try_append.new.self _
+            c.args.output.now.pending c.append.new.self _
             (prompt_known prompt _ _ is.prompt_is named) (c.in-Some.ensures.silent refl) (rw letter at is.names) shown)
             (g.L.LineSource.most u) line (before ++ line ∷ []) fewer refl
-            _ _ _ _ _ _ _ c.from_residual.ensures.1 (c.in_err-store_answer.ensures
+            _ _ _ _ _ _ _ c.from_residual.ensures.1 (c.in_err-store_answer.ensures.comes
             (devices (g.C.Chooser.choices c.args.io.now.chooser.now) (screen_state g.S.Screen c.args.io.now.screen.now)
-            (g.L.LineSource.most u) c.args.io.now.rules.choose (before ++ line ∷ [])) c.args.request.now.said.now x
+            (g.L.LineSource.most u) c.args.io.now.rules.choose (before ++ line ∷ [])) _ c.args.request.now.said.now x
             prompt),
       ),
     )
@@ -79,8 +79,8 @@ returns-then-branch-clause-comes g c =
     let some : ready_lines c.take_ready.result ≡ line ∷ [] = ap ready_lines c.in-Some-take_ready.is in
     let letter = c.in-Some.ensures.letter in
     let named : NamesOne c.args.request.now.destination = subst NamesOne (sym letter) tt in
-    let shown = c.try_append.ensures.taken (c.try_append.ensures.room.1 (c.in-Some.ensures.room refl))
-    ∙ ap (λ (k : List ℕ). c.args.pending.now ++ (k ++ 58 ∷ [])) (sym c.in-Some.ensures.name) in
+    let shown = c.append.ensures
+    ∙ ap (λ (k : List ℕ). c.args.output.now.pending ++ (k ++ 58 ∷ [])) (sym c.in-Some.ensures.name) in
     let gives = gives_one_more g.L.LineSource.gives g.met.L.LineSource.gives_more s s u [] line
     (Ok c.take_ready.result) some (g.met.L.LineSource.gives_none s) c.take_ready.follows.holds-at-none.0 in
     let fewer = falls_one g.L.LineSource.gives g.L.LineSource.most g.met.L.LineSource.falls s u
@@ -92,12 +92,12 @@ returns-then-branch-clause-comes g c =
             answering_done c.args.request.now.said.now x prompt (refines_part_refl _ _) _
             (letter_asked c.args.request.now.said.now x prompt c.args.request.now.name.now
             (io_trace g.C.Chooser.choices g.S.Screen g.L.LineSource.most c.args.io.now before c.args.store.now)
-            c.args.pending.now c.try_append.new.self _
+            c.args.output.now.pending c.append.new.self _
             (prompt_known prompt _ _ is.prompt_is named) (c.in-Some.ensures.silent refl) (rw letter at is.names) shown)
             (g.L.LineSource.most u) line (before ++ line ∷ []) fewer refl
-            _ _ c.if-branch.true (c.in_ok-store_answer.ensures
+            _ _ c.if-branch.true (c.in_ok-store_answer.ensures.comes
             (devices (g.C.Chooser.choices c.args.io.now.chooser.now) (screen_state g.S.Screen c.args.io.now.screen.now)
-            (g.L.LineSource.most u) c.args.io.now.rules.choose (before ++ line ∷ [])) c.args.request.now.said.now x
+            (g.L.LineSource.most u) c.args.io.now.rules.choose (before ++ line ∷ [])) _ c.args.request.now.said.now x
             prompt),
       ),
     )
@@ -110,8 +110,8 @@ returns-clause-comes g c =
     let some : ready_lines c.take_ready.result ≡ line ∷ [] = ap ready_lines c.in-Some-take_ready.is in
     let letter = c.in-Some.ensures.letter in
     let named : NamesOne c.args.request.now.destination = subst NamesOne (sym letter) tt in
-    let shown = c.try_append.ensures.taken (c.try_append.ensures.room.1 (c.in-Some.ensures.room refl))
-    ∙ ap (λ (k : List ℕ). c.args.pending.now ++ (k ++ 58 ∷ [])) (sym c.in-Some.ensures.name) in
+    let shown = c.append.ensures
+    ∙ ap (λ (k : List ℕ). c.args.output.now.pending ++ (k ++ 58 ∷ [])) (sym c.in-Some.ensures.name) in
     let gives = gives_one_more g.L.LineSource.gives g.met.L.LineSource.gives_more s s u [] line
     (Ok c.take_ready.result) some (g.met.L.LineSource.gives_none s) c.take_ready.follows.holds-at-none.0 in
     let fewer = falls_one g.L.LineSource.gives g.L.LineSource.most g.met.L.LineSource.falls s u
@@ -125,21 +125,21 @@ returns-clause-comes g c =
         g.met.L.LineSource.gives_more s u io.source.now (line ∷ []) later.0 gives later.1.0,
         λ before x prompt is.
             let old = due_trace g.C.Chooser.choices g.S.Screen g.L.LineSource.most c.args.io.now before
-            c.args.store.now c.args.pending.now in
+            c.args.store.now c.args.output.now.pending in
             subst (λ (ks : List (List ℕ)). Comes refused old (due_trace g.C.Chooser.choices g.S.Screen
-            g.L.LineSource.most io ks c.take_in_parts-2.new.store c.take_in_parts-2.new.pending)
+            g.L.LineSource.most io ks c.take_in_parts-2.new.store c.take_in_parts-2.new.output.pending)
             (item_action c.args.request.now.said.now x prompt) (λ _. goes_on tt) c.take_in_parts-2.result)
             (append_assoc before (line ∷ []) later.0)
             (comes_after refused _ (λ _. goes_on tt)
             (answering_again c.args.request.now.said.now x prompt (refines_part_refl _ _) _
             (letter_asked c.args.request.now.said.now x prompt c.args.request.now.name.now
             (io_trace g.C.Chooser.choices g.S.Screen g.L.LineSource.most c.args.io.now before c.args.store.now)
-            c.args.pending.now c.try_append.new.self _
+            c.args.output.now.pending c.append.new.self _
             (prompt_known prompt _ _ is.prompt_is named) (c.in-Some.ensures.silent refl) (rw letter at is.names) shown)
             (g.L.LineSource.most u) line (before ++ line ∷ []) fewer refl
-            _ _ c.if-branch.false (c.in_ok-store_answer.ensures
+            _ _ c.if-branch.false (c.in_ok-store_answer.ensures.comes
             (devices (g.C.Chooser.choices c.args.io.now.chooser.now) (screen_state g.S.Screen c.args.io.now.screen.now)
-            (g.L.LineSource.most u) c.args.io.now.rules.choose (before ++ line ∷ [])) c.args.request.now.said.now x
+            (g.L.LineSource.most u) c.args.io.now.rules.choose (before ++ line ∷ [])) _ c.args.request.now.said.now x
             prompt))
             c.take_in_parts-2.result (later.1.1 (before ++ line ∷ []) x prompt is)),
       ),
