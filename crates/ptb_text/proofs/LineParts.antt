@@ -63,15 +63,6 @@ module _ (line t : List ℕ) (clean : position (λ b. not (is_printable b)) line
   by_trimmed : (p : Statements) (memory : ℕ) → after_line p memory line ≡ after_trimmed p memory t
   by_trimmed p memory = ap (λ o. unless_bad_byte o p memory line) clean ∙ ap (after_trimmed p memory) (sym trimmed)
 
-  pub after_blanks : t ≡ [] → EntersNothing line
-  after_blanks none p memory = by_trimmed p memory ∙ ap (after_trimmed p memory) none
-
-  pub after_no_number : 0 < length t → digits_value (digits_of t) ≡ 0 → IsRefused line NoNumber
-  after_no_number some none p memory = by_trimmed p memory ∙ no_number t p memory some none
-
-  pub after_too_big : 0 < length t → number_limit < digits_value (digits_of t) → IsRefused line NumberTooBig
-  after_too_big some over p memory = by_trimmed p memory ∙ too_big t p memory some over
-
   pub after_number : (n : ℕ) → 0 < length t → digits_value (digits_of t) ≡ n → 0 < n → n ≤ number_limit
       → IsNumbered line n (trim_start (after_digits t))
   after_number n some is low high = record {
@@ -160,8 +151,26 @@ in_front-trim_start line =
 pub some_in_front : (line : List ℕ) → nat_le (length line) (past_blanks line 0) ≡ false → 0 < length (in_front line)
 some_in_front line e = omega (arith, leb-false _ _ e, length-drop (past_blanks line 0) line)
 
-pub none_in_front : (line : List ℕ) → nat_le (length line) (past_blanks line 0) ≡ true → in_front line ≡ []
+none_in_front : (line : List ℕ) → nat_le (length line) (past_blanks line 0) ≡ true → in_front line ≡ []
 none_in_front line e = drop_all (past_blanks line 0) line (leb-true _ _ e)
+
+-- what a line with no statement does, by whether all of it is blank and by the number in front
+module _ (line : List ℕ) (clean : position (λ b. not (is_printable b)) line ≡ None) where
+  by_front : (p : Statements) (memory : ℕ) → after_line p memory line ≡ after_trimmed p memory (in_front line)
+  by_front = by_trimmed line (in_front line) clean (in_front-trim_start line)
+
+  pub after_blanks : nat_le (length line) (past_blanks line 0) ≡ true → EntersNothing line
+  after_blanks all p memory = by_front p memory ∙ ap (after_trimmed p memory) (none_in_front line all)
+
+  pub after_no_number : nat_le (length line) (past_blanks line 0) ≡ false
+      → digits_value (digits_of (in_front line)) ≡ 0 → IsRefused line NoNumber
+  after_no_number some none p memory =
+      by_front p memory ∙ no_number (in_front line) p memory (some_in_front line some) none
+
+  pub after_too_big : nat_le (length line) (past_blanks line 0) ≡ false
+      → number_limit < digits_value (digits_of (in_front line)) → IsRefused line NumberTooBig
+  after_too_big some over p memory =
+      by_front p memory ∙ too_big (in_front line) p memory (some_in_front line some) over
 
 -- what a number in front is: none, or what the digits there write
 number_cases : (line : List ℕ) (n : Number) (j : ℕ) → number_at line 0 ≡ (n, j)

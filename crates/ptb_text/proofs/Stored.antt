@@ -18,6 +18,11 @@ use Rattle.ptb_text.proofs.Sound.{StatementFacts_at}
 pub length_shown : (f : Inside) (p : StoredProgram) → stored_program f ≡ p → length f.statements.items ≡ length p.lines
 length_shown f p shows = sym (length-map f.statements.items (shown f.pool.items)) ∙ ap (λ q. length q.lines) shows
 
+-- a place of a line is one of a statement
+pub stored_place : (f : Inside) (p : StoredProgram) → stored_program f ≡ p → (at : ℕ) → at < length p.lines
+    → at < f.statements.len
+stored_place f p shows at inside = omega (arith, length_shown f p shows, inside, f.statements.ok.0)
+
 -- a statement that is read is the line at its place
 pub line_read : (f : Inside) (p : StoredProgram) → stored_program f ≡ p → (i : ℕ) (s : Statement) → i < length p.lines
     → s ≡ get_or f.statements.items i s → get_or p.lines i (0, []) ≡ shown f.pool.items s

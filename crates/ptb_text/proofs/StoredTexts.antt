@@ -38,6 +38,11 @@ short_text n t is = (StatementFacts-from_test n t is).text.short
 pub small_cost : (p : StoredProgram) → IsSound p → (k : ℕ) → k ≡ cost p.lines → k ≤ 32767
 small_cost p sound k counted = omega (arith, counted, sound.fits, sound.memory_size.1)
 
+-- so what both cost is small
+pub grown_cost : (p : StoredProgram) → IsSound p → (k : ℕ) → k ≡ cost p.lines → (n : ℕ) (t : List ℕ)
+    → is_statement (n, t) ≡ true → length t + 3 + k ≤ 33025
+grown_cost p sound k counted n t is = omega (arith, small_cost p sound k counted, short_text n t is)
+
 -- the fields whose statements were laid out from a place on
 abbrev pub laid_from : Vec Statement → List Statement → List Statement → ℕ → Vec ℕ → ℕ → Inside
 laid_from v ss part at pool memory = record {

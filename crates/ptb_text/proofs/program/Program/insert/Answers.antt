@@ -7,7 +7,7 @@ use Rattle.ptb_text.specs.Program.{lengths, texts_length}
 use Rattle.ptb_text.specs.Statements.{StoredProgram}
 use Rattle.ptb_text.proofs.Pool.{lengths-part}
 use Rattle.ptb_text.proofs.StoredTexts.{IsKept-same, insert_enters, insert_kept, insert_size}
-use Rattle.ptb_text.proofs.StoredTexts.{store_full, store_refused, short_text, small_cost}
+use Rattle.ptb_text.proofs.StoredTexts.{store_full, store_refused, short_text, grown_cost}
 use Rattle.ptb_text.proofs.Stored.{HasSizes-from_kept, length_shown, memory_shown, same_shown}
 use Rattle.ptb_text.proofs.program.Program.insert.Goals as goal
 use Rattle.ptb_text.proofs.program.Program.insert.Goals.{After-place_of-place, After-unwrap}
@@ -155,11 +155,12 @@ pub overflow_cast-cost : goal.overflow_cast-cost
 overflow_cast-cost c = omega (arith, short_text c.args.number c.args.text.now c.requires.statement)
 
 pub overflow_add-cost-2 : goal.overflow_add-cost-2
-overflow_add-cost-2 c = omega (
-  arith,
-  short_text c.args.number c.args.text.now c.requires.statement,
-  small_cost c.args.self.now c.cost.ensures.sound c.cost.result c.cost.ensures.value,
-)
+overflow_add-cost-2 c =
+    omega (
+      arith,
+      grown_cost c.args.self.now c.cost.ensures.sound c.cost.result c.cost.ensures.value c.args.number
+          c.args.text.now c.requires.statement,
+    )
 
 pub overflow_cast-statement : goal.overflow_cast-statement
 overflow_cast-statement c = omega (arith, short_text c.args.number c.args.text.now c.requires.statement)

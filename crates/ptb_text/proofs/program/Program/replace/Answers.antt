@@ -5,8 +5,8 @@ use Rattle.ptb_text.specs.declared.program.Statement.{Statement}
 use Rattle.ptb_text.specs.Program.{lengths}
 use Rattle.ptb_text.proofs.Pool.{IsEntry, lengths-part}
 use Rattle.ptb_text.proofs.StoredTexts.{IsKept-same, replace_cost, replace_enters, replace_kept}
-use Rattle.ptb_text.proofs.StoredTexts.{replace_size, store_full, store_refused, short_text, small_cost}
-use Rattle.ptb_text.proofs.Stored.{IsEntry-shown, HasSizes-from_kept, length_shown, memory_shown}
+use Rattle.ptb_text.proofs.StoredTexts.{replace_size, store_full, store_refused, short_text, grown_cost}
+use Rattle.ptb_text.proofs.Stored.{IsEntry-shown, HasSizes-from_kept, memory_shown, stored_place}
 use Rattle.ptb_text.proofs.program.Program.replace.Goals as goal
 use Rattle.ptb_text.proofs.program.Program.replace.Goals.{After-from}
 
@@ -99,20 +99,12 @@ pub put_text-requires-clause-room : goal.put_text-requires-clause-room
 put_text-requires-clause-room c = search rules fits 50 depth 2
 
 pub index-requires : goal.index-requires
-index-requires c = omega (
-  arith,
-  c.requires.place.in_range,
-  length_shown c.self.inside c.args.self.now c.self.view_is,
-  c.self.inside.statements.ok.0,
-)
+index-requires c =
+    omega (arith, stored_place c.self.inside c.args.self.now c.self.view_is c.args.at c.requires.place.in_range)
 
 pub index_mut-requires : goal.index_mut-requires
-index_mut-requires c = omega (
-  arith,
-  c.requires.place.in_range,
-  length_shown c.self.inside c.args.self.now c.self.view_is,
-  c.self.inside.statements.ok.0,
-)
+index_mut-requires c =
+    omega (arith, stored_place c.self.inside c.args.self.now c.self.view_is c.args.at c.requires.place.in_range)
 
 pub offset_bounds-deref_mut-at : goal.offset_bounds-deref_mut-at
 offset_bounds-deref_mut-at c =
@@ -123,11 +115,12 @@ pub overflow_cast-cost : goal.overflow_cast-cost
 overflow_cast-cost c = omega (arith, short_text c.args.number c.args.text.now c.requires.statement)
 
 pub overflow_add-cost : goal.overflow_add-cost
-overflow_add-cost c = omega (
-  arith,
-  short_text c.args.number c.args.text.now c.requires.statement,
-  small_cost c.args.self.now c.cost.ensures.sound c.cost.result c.cost.ensures.value,
-)
+overflow_add-cost c =
+    omega (
+      arith,
+      grown_cost c.args.self.now c.cost.ensures.sound c.cost.result c.cost.ensures.value c.args.number
+          c.args.text.now c.requires.statement,
+    )
 
 pub overflow_cast-text : goal.overflow_cast-text
 overflow_cast-text c = omega (arith, short_text c.args.number c.args.text.now c.requires.statement)
