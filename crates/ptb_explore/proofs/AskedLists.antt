@@ -33,7 +33,13 @@ pub bound_at : (asked : List Asked) (k : ℕ) (q : Asked) (d : ℤ) → k < leng
     → get_or (bounds_in asked) k d ≡ (get_or asked k q).bound
 bound_at asked k q d within = get_or-map (λ (q : Asked). q.bound) asked k q d within
 
--- the item at a place
+-- the question at a place, and its item
+abbrev pub question_at : List Asked → ℕ → Asked
+question_at asked k = get_or asked k (get_or asked k (record { answer = pos 0; bound = pos 0 }))
+
+abbrev pub item_for : Form → List Asked → ℕ → Marked
+item_for form asked k = in_form form (question_at asked k).answer (question_at asked k).bound
+
 pub asked_at : (form : Form) (asked : List Asked) (k : ℕ) (q : Asked) (m : Marked) → k < length asked
     → get_or (asked_items form asked) k m ≡ in_form form (get_or asked k q).answer (get_or asked k q).bound
 asked_at form asked k q m within =

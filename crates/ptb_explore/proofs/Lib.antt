@@ -4,6 +4,7 @@ pub mod ReportText
 pub mod AskedLists
 pub mod WrittenTexts
 pub mod Order
+pub mod EveryEnding
 pub mod Lists
 pub mod Tree
 pub mod Next

@@ -13,7 +13,8 @@ use Rattle.ptb_explore.specs.declared.mismatch.Mismatch.{Mismatch}
 use Rattle.ptb_explore.specs.declared.mismatch.Mismatch.TheVariants.{OutOfRange, OtherBound}
 use Rattle.ptb_explore.specs.declared.mismatch.Mismatch.TheVariants.{NoQuestion, Missing, NotUnder}
 use Rattle.ptb_explore.specs.MarkedRuns.{IsMarkedRun, IsMarkedBeginning, is_bound, states_bounds}
-use Rattle.ptb_explore.specs.Mismatch.{IsQuestion, IsItemMismatch, IsMissing, IsRunMismatch, IsUnder, MismatchLaws}
+use Rattle.ptb_explore.specs.Mismatch.{IsAskedFor, IsQuestion, IsItemMismatch, IsMissing, IsRunMismatch}
+use Rattle.ptb_explore.specs.Mismatch.{IsUnder, MismatchLaws}
 use Rattle.ptb_explore.specs.RunTree.{IsRun, begins_with}
 use Rattle.ptb_explore.proofs.Bounds.{length-bounds, bounds-append}
 use Rattle.ptb_explore.proofs.Mismatches.{answers_length, answers_split, item_is_run}
@@ -62,11 +63,37 @@ module _ {A W : Type 0} (play : Answers → Outcome A W) (most : ℕ) (reads : I
       ap (bounds play) is ∙ bounds-append play [] q (m.answer ∷ []) in
       let last : states_bounds (m ∷ []) (bound_of (play q) ∷ []) ≡ true =
       and_from (is_bound m.bound (bound_of (play q))) true (ap (is_bound m.bound) bound ∙ states) refl in
-      let long : length before ≡ length (bounds play q) = sym (answers_length before) ∙ sym (length-bounds play [] q) in (
+      let long : length before ≡ length (bounds play q) = sym (answers_length before) ∙ sym (length-bounds play [] q)
+      in (
         ap (λ (t : Answers). is_open (play t)) is ∙ reads.inside q n m.answer w asks inside,
         ap (states_bounds (before ++ m ∷ [])) are ∙ states_join before (bounds play q) (bound_of (play q) ∷ [])
             (m ∷ []) long b.1 last,
       )
+
+  -- an item after which nothing comes is asked for
+  abbrev asked_last : (before : List Marked) (m : Marked) (n : ℤ) → IsMarkedBeginning play before → IsQuestion play
+      before n
+      → IsAskedFor play (before ++ m ∷ []) (length before + 1) m n
+  asked_last before m n begins question = record {
+    before = before;
+    after = [];
+    list_is = refl;
+    item_is = refl;
+    begins = begins;
+    question = question;
+  }
+
+  -- it is asked for, too, where other items come after it
+  asked_before : (list : List Marked) (item : ℕ) (m : Marked) (bound : ℤ) (a : IsAskedFor play list item m bound)
+      (later : List Marked) → IsAskedFor play (a.before ++ m ∷ later) item m bound
+  asked_before list item m bound a later = record {
+    before = a.before;
+    after = later;
+    list_is = refl;
+    item_is = a.item_is;
+    begins = a.begins;
+    question = a.question;
+  }
 
   abbrev Decided : List Marked → Type 0
   Decided list = IsMarkedBeginning play list ⊎ ((m : Mismatch) × IsItemMismatch play list m)
@@ -92,14 +119,8 @@ module _ {A W : Type 0} (play : Answers → Outcome A W) (most : ℕ) (reads : I
             OutOfRange (length before + 1) m.answer q.0,
             record {
               stated = m.bound;
-              asked = record {
-                before = before;
-                after = after;
-                list_is = refl;
-                item_is = refl;
-                begins = b;
-                question = (q.1, q.2);
-              };
+              asked = asked_before (before ++ m ∷ []) (length before + 1) m q.0 (asked_last before m q.0 b (q.1, q.2))
+                  after;
               outside = o;
             },
           )
@@ -175,14 +196,7 @@ module _ {A W : Type 0} (play : Answers → Outcome A W) (most : ℕ) (reads : I
     why = (a.item_is, refl, a.question, x.outside);
     always = λ later. record {
       stated = x.stated;
-      asked = record {
-        before = a.before;
-        after = later;
-        list_is = refl;
-        item_is = a.item_is;
-        begins = a.begins;
-        question = a.question;
-      };
+      asked = asked_before list item (record { answer = answer; bound = x.stated }) bound a later;
       outside = x.outside;
     };
   }
@@ -195,14 +209,7 @@ module _ {A W : Type 0} (play : Answers → Outcome A W) (most : ℕ) (reads : I
     why = (a.item_is, refl, a.question, x.inside, x.other);
     always = λ later. record {
       answer = x.answer;
-      asked = record {
-        before = a.before;
-        after = later;
-        list_is = refl;
-        item_is = a.item_is;
-        begins = a.begins;
-        question = a.question;
-      };
+      asked = asked_before list item (with_bound x.answer stated) bound a later;
       inside = x.inside;
       other = x.other;
     };

@@ -13,7 +13,7 @@ use Rattle.ptb_answers.specs.declared.form.Marked.{Marked}
 use Rattle.ptb_answers.specs.Outcome.{Answers, Outcome, Asks, IsReader, is_answer, is_open}
 use Rattle.ptb_answers.specs.Outcome.{bound_of, bounds, bounds_after}
 use Rattle.ptb_answers.specs.AnswerText.{answers_of, with_bound}
-use Rattle.ptb_answers.proofs.Readers.{whole_is, open_is, closed_is}
+use Rattle.ptb_answers.proofs.Readers.{whole_is, closed_is}
 use Rattle.ptb_explore.specs.declared.mismatch.Mismatch.{Mismatch}
 use Rattle.ptb_explore.specs.declared.mismatch.Mismatch.TheVariants.{OutOfRange, OtherBound}
 use Rattle.ptb_explore.specs.declared.mismatch.Mismatch.TheVariants.{NoQuestion, Missing, NotUnder}
@@ -25,7 +25,7 @@ use Rattle.ptb_explore.proofs.Attempt.{run_opens}
 use Rattle.ptb_explore.proofs.Bounds.{length-bounds, bounds-append}
 use Rattle.ptb_explore.proofs.Order.{same_is}
 use Rattle.ptb_explore.proofs.Stated.{states_begun}
-use Rattle.ptb_explore.proofs.Tree.{run_asks}
+use Rattle.ptb_explore.proofs.Tree.{next_asks, run_asks}
 
 -- ---- what is seen of a play of a list
 
@@ -114,18 +114,9 @@ module _ {A W : Type 0} (play : Answers → Outcome A W) (most : ℕ) (reads : I
   -- each answer of an open list is asked for, and inside its bound
   open_asks : (q b : Answers) (k : ℤ) → is_open (play (q ++ k ∷ b)) ≡ true
       → (n : ℤ) × (w : W) × (play q ≡ Asks n w) × (is_answer n k ≡ true)
-  open_asks q b k o = elim (open_is (play q) (open_front q (k ∷ b) o)) [
-    | inl d ↦ let e : is_open (play (q ++ k ∷ b)) ≡ false = ap is_open (reads.done q (k ∷ b) [] d.0 d.1) in absurd cc
-    | inr d ↦
-        (d.0, d.1, d.2, elim (cases_Bool (is_answer d.0 k)) [ inl i ↦ i | inr x ↦ absurd (not_outside d.0 d.1 d.2 x) ])
-  ]
-    where
-      not_outside : (n : ℤ) (w : W) → play q ≡ Asks n w → is_answer n k ≡ false → ⊥
-      not_outside n w e x =
-          let f = reads.out (q ++ k ∷ []) b n w (reads.outside q n k w e x) in
-          let s = append_assoc q (k ∷ []) b in
-          let c : is_open (play (q ++ k ∷ b)) ≡ false = ap is_open (ap play (sym s) ∙ f) in
-          cc
+  open_asks q b k o = next_asks play most reads q b k (open_front q (k ∷ b) o)
+      (λ x e. let c : is_open (play (q ++ k ∷ b)) ≡ false = ap is_open e in absurd cc)
+      (λ n w e. let c : is_open (play (q ++ k ∷ b)) ≡ false = ap is_open e in absurd cc)
 
   pub same_question : (q : Answers) (n m : ℤ) (v w : W) → play q ≡ Asks n v → play q ≡ Asks m w → n ≡ m
   same_question q n m v w e f = let g : Asks n v ≡ Asks m w = sym e ∙ f in cc

@@ -39,15 +39,15 @@ module _ (p : StoredProgram) (input : List (List ℕ)) (rules : Rules) (r : Runn
 
 -- ---- before the runs that begin with a list
 
+same_game : (old new : Runner) → IsSameGame old new → game_of new ≡ game_of old
+same_game old new same =
+    rw (ap (λ (r : Runner). r.player) same, ap (λ (r : Runner). r.lines.now) same, ap (λ (r : Runner). r.rules) same)
+    refl
+
 pub begun_first : (old new : Runner) → IsSameGame old new → (list items : List Marked) → items ≡ list
     → is_open (game_of old (answers_of list)) ≡ true → is_open (game_of new (answers_of items)) ≡ true
 begun_first old new same list items is opens =
-    rw (
-      ap (λ (r : Runner). r.player) same,
-      ap (λ (r : Runner). r.lines.now) same,
-      ap (λ (r : Runner). r.rules) same,
-      is,
-    ) opens
+    rw (same_game old new same, is) opens
 
 -- the first of them is all that was played
 pub opened_played : (game g : Answers → Outcome Finish (List ℕ)) → game ≡ g → (under : Answers) (old new : ℕ) → old ≡ 0
@@ -64,12 +64,7 @@ pub stays : (old new : Runner) → IsSameGame old new → (under : Answers) (pos
     → IsPosition (game_of old) under position (answers_in old.report.asked.items) (bounds_in old.report.asked.items)
     → IsPosition (game_of new) under position (answers_in new.report.asked.items) (bounds_in new.report.asked.items)
 stays old new same under position asked h =
-    rw (
-      ap (λ (r : Runner). r.player) same,
-      ap (λ (r : Runner). r.lines.now) same,
-      ap (λ (r : Runner). r.rules) same,
-      asked,
-    ) h
+    rw (same_game old new same, asked) h
 
 -- ---- at a run
 

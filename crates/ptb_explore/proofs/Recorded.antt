@@ -20,6 +20,9 @@ given_len r =
     sym (length-bounds_in (take r.given r.asked.items) ∙ length-take-le r.given r.asked.items
     (omega (arith, r.bounded, r.asked.ok.0)))
 
+pub fresh_from : (r : Recorder) → r.given ≡ 0 → r.planned ≡ vec_len r.asked → IsFresh r
+fresh_from r none all = record { none_given = none; all_planned = all }
+
 pub fresh_bounds : (r : Recorder) → IsFresh r → given_bounds r ≡ []
 fresh_bounds r f = ap (λ n. bounds_in (take n r.asked.items)) f.none_given
 

@@ -19,7 +19,7 @@ use Rattle.ptb_machine.specs.State.{State, first_state}
 use Rattle.ptb_machine.specs.Act.{StepResult, Next, Over}
 use Rattle.ptb_machine.specs.Play.{Finish, turn, after_step_result, turns, play}
 use Rattle.ptb_machine.specs.Laws.{RunLaws}
-use Rattle.ptb_machine.specs.Devices.{ScreenState, devices, Refusal, nothing_refused, refused_by}
+use Rattle.ptb_machine.specs.Devices.{ScreenState, Devices, devices, Refusal, nothing_refused, refused_by}
 use Rattle.ptb_machine.specs.Configuration.{Configuration}
 use Rattle.ptb_machine.specs.Effects.{act_state}
 use Rattle.ptb_machine.specs.Representation.{Represents}
@@ -348,6 +348,21 @@ pub record Extends (c d : Choices) (s t : List ℕ) : Type 0 where
   pub taken : d.taken ≡ c.taken ++ answers
   pub shown : t ≡ s ++ bytes
 
+-- what follows of each turn follows of the last one of a run, however it ended
+pub of_turn : {P : Type 0} (refused : Refusal → Type 0) (R : Devices → (State → Answers → Outcome StepResult State) →
+    Type 0)
+    (n : Devices) → ((g : State → Answers → Outcome StepResult State) → R n g → P) → (e : Ending)
+    → StepComes refused R n (Ok (Some e)) → P
+of_turn refused R n f endings.End x = f (ends endings.End) x
+of_turn refused R n f endings.Stop x = f (ends endings.Stop) x
+of_turn refused R n f endings.What x = f (ends endings.What) x
+of_turn refused R n f endings.How x = f (ends endings.How) x
+of_turn refused R n f endings.Sorry x = f (ends endings.Sorry) x
+of_turn refused R n f endings.Limit x = f (ends endings.Limit) x
+of_turn refused R n f endings.NoInput w = f w.left w.comes
+of_turn refused R n f endings.NoAnswer w = f w.left w.comes
+of_turn refused R n f endings.BadAnswer w = f w.1.left w.1.comes
+
 module _ (p : StoredProgram) (input : List (List ℕ)) (rules : Rules) (m new : Configuration)
     (c d : Choices) (s t : List ℕ) (given left rest : List (List ℕ)) (most few : ℕ) (refused : Refusal
     → Type 0) (u : IsRunPrefix p input rules c s left m) where
@@ -366,15 +381,8 @@ module _ (p : StoredProgram) (input : List (List ℕ)) (rules : Rules) (m new : 
       → StepComes refused (StepsTo p.lines new (devices c (text_state s) most rules.choose []) u.state rest
       (turn p rules.limit u.state)) (devices d (text_state t) few rules.choose given) (Ok (Some e))
       → Extends c d s t
-  ending_extends endings.End x = turn_extends (ends endings.End) x
-  ending_extends endings.Stop x = turn_extends (ends endings.Stop) x
-  ending_extends endings.What x = turn_extends (ends endings.What) x
-  ending_extends endings.How x = turn_extends (ends endings.How) x
-  ending_extends endings.Sorry x = turn_extends (ends endings.Sorry) x
-  ending_extends endings.Limit x = turn_extends (ends endings.Limit) x
-  ending_extends endings.NoInput w = turn_extends w.left w.comes
-  ending_extends endings.NoAnswer w = turn_extends w.left w.comes
-  ending_extends endings.BadAnswer w = turn_extends w.1.left w.1.comes
+  ending_extends e x = of_turn refused (StepsTo p.lines new (devices c (text_state s) most rules.choose []) u.state rest
+      (turn p rules.limit u.state)) (devices d (text_state t) few rules.choose given) turn_extends e x
 
   pub step_extends : (o : Option Ending) (r : Result (Option Ending) RunFault) → r ≡ Ok o → left ≡ given ++ rest
       → (few ≡ 0 → rest ≡ [])

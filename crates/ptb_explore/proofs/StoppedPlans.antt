@@ -1,7 +1,7 @@
 -- This file proves that a plan that stops after n answers is played to a run of what is stopped there.
 -- Main lemma: `beginning_ends`.
-use Rattle.std.proofs.Common.{◌≡◌, ℕ, zero, suc, ◌-◌, ◌≤◌, List, [], ◌∷◌, ◌++◌, length, take, drop}
-use Rattle.std.proofs.Common.{replicate, Some, true, false, refl, ap, sym, subst, ◌∙◌, arith}
+use Rattle.std.proofs.Common.{◌≡◌, ℕ, zero, suc, ◌+◌, ◌-◌, ◌≤◌, List, [], ◌∷◌, ◌++◌, length, take, drop}
+use Rattle.std.proofs.Common.{inl, inr, replicate, Some, true, false, refl, ap, sym, subst, ◌∙◌, arith}
 use Rattle.std.proofs.Common.{append_assoc, append-nil, length-append, vec_len}
 use Rattle.std.specs.Prelude.{ℤ, pos, ◌+ℤ◌, int_le, slice_index_or}
 use Rattle.std.proofs.lemmas.Bool.{and_from}
@@ -9,7 +9,6 @@ use Rattle.std.proofs.lemmas.Int.{ints}
 use Rattle.std.proofs.lemmas.List.{length-replicate, take-append-drop, take-append-le, length-take-le}
 use Rattle.ptb_answers.specs.Outcome.{Answers, Outcome, Done, Asks, Out, IsReader, bounds, is_answer, is_open, is_whole}
 use Rattle.ptb_machine.specs.declared.ending.Ending.{Ending}
-use Rattle.ptb_machine.specs.declared.ending.Ending.TheVariants as endings
 use Rattle.ptb_machine.specs.Play.{Finish}
 use Rattle.ptb_explore.specs.declared.plan.Position.{Position}
 use Rattle.ptb_explore.specs.declared.plan.Position.TheVariants.{AtStart, AtRun, AtEnd}
@@ -24,6 +23,7 @@ use Rattle.ptb_explore.proofs.Attempt.{all_ones, out_closes, run_closes}
 use Rattle.ptb_explore.proofs.RaisedAnswers.{plan_begins}
 use Rattle.ptb_explore.proofs.StoppedPlays.{asking_run, bounds_within, open_within, run_within, whole_run}
 use Rattle.ptb_explore.proofs.Tree.{run_asks}
+use Rattle.ptb_explore.proofs.Trial.{over_or_outside}
 
 -- ---- the first answers of a plan that stops
 
@@ -122,6 +122,14 @@ module _ (play : Answers → Outcome Finish (List ℕ)) (most : ℕ) (reads : Is
       cut_taken plan ones taken (drop (length (given_bounds r)) (recorded r)) later
       (sym all ∙ sym (take-append-drop (length (given_bounds r)) (recorded r)))
 
+  taken_length : (j : ℕ) → taken ≡ plan ++ replicate j (pos 1) → length taken ≡ length plan + j
+  taken_length j e = omega (
+    arith,
+    ap length e,
+    length-append plan (replicate j (pos 1)),
+    length-replicate j (pos 1),
+  )
+
   ends_with : (j : ℕ) → j ≤ ones → taken ≡ plan ++ replicate j (pos 1) → IsRun (stopped n play) taken
       → (given_bounds r) ≡ bounds play taken → PlanEndsWith (stopped n play) plan taken (given_bounds r) tt
   ends_with j l e run b = record {
@@ -144,14 +152,7 @@ module _ (play : Answers → Outcome Finish (List ℕ)) (most : ℕ) (reads : Is
       by_cut (Short x s e) =
           absurd (run_closes play most reads taken s x result done (subst (λ a. is_open (play a) ≡ true) e open_plan))
       by_cut (Ones j l e) =
-          let few : length taken ≤ n = omega (
-            arith,
-            ap length e,
-            length-append plan (replicate j (pos 1)),
-            length-replicate j (pos 1),
-            l,
-            fits,
-          ) in
+          let few : length taken ≤ n = omega (arith, taken_length j e, l, fits) in
           let theirs : (given_bounds r) ≡ bounds play taken = (let k = h.bounds_are in cc) in
           ends_with j l e (whole_run play n most reads taken few (ap is_whole done)) theirs
       by_cut (Long s e) =
@@ -175,28 +176,15 @@ module _ (play : Answers → Outcome Finish (List ℕ)) (most : ℕ) (reads : Is
           let other : is_answer r.refused_bound (pos 1) ≡ false = ap (is_answer r.refused_bound) (sym e) ∙ h.outside in
           absurd cc
       by_next (IsNone e) =
-          let all : length taken ≡ n = omega (
-            arith,
-            ap length e,
-            length-append plan (replicate ones (pos 1)),
-            length-replicate ones (pos 1),
-            fits,
-          ) in
+          let all : length taken ≡ n = omega (arith, taken_length ones e, fits) in
           let theirs : (given_bounds r) ≡ bounds play taken = (let k = h.bounds_are in cc) in
           ends_with ones (omega arith) e (asking_run play n most reads taken r.refused_bound h.beside all h.asks) theirs
 
   pub beginning_ends : (steps : ℕ) (shown : List ℕ) (e : Ending)
       → PlayEnds play (choices_of r) r.refused_bound steps shown e
       → PlanEndsWith (stopped n play) plan taken (given_bounds r) tt
-  beginning_ends steps shown endings.End h = ended _ h
-  beginning_ends steps shown endings.Stop h = ended _ h
-  beginning_ends steps shown endings.What h = ended _ h
-  beginning_ends steps shown endings.How h = ended _ h
-  beginning_ends steps shown endings.Sorry h = ended _ h
-  beginning_ends steps shown endings.Limit h = ended _ h
-  beginning_ends steps shown endings.NoInput h = ended _ h
-  beginning_ends steps shown endings.NoAnswer h = absurd h
-  beginning_ends steps shown endings.BadAnswer h = stopped_there h
+  beginning_ends steps shown e h = elim (over_or_outside play (choices_of r) r.refused_bound steps shown e h)
+      [ inl over ↦ ended _ over | inr outside ↦ stopped_there outside ]
 
 -- ---- the plan of the next list
 

@@ -19,7 +19,7 @@ use Rattle.ptb_explore.specs.PlannedPlays.{Holds, PlayEnds, NextIsOutside}
 use Rattle.ptb_explore.specs.Recorders.{choices_of, given_bounds, recorded}
 use Rattle.ptb_explore.proofs.Mismatches.{HasBounds, answers_length, answers_split, answers_take}
 use Rattle.ptb_explore.proofs.Mismatches.{no_question, out_of_range, split_there, take_twice}
-use Rattle.ptb_explore.proofs.Trial.{begun_opens, open_ends}
+use Rattle.ptb_explore.proofs.Trial.{begun_opens, open_ends, over_or_outside}
 
 -- the plan of the recorder is the answers of a list, and it has come to this ending
 module _ (play : Answers → Outcome Finish (List ℕ)) (r : Recorder) (steps : ℕ) (shown : List ℕ) (most : ℕ)
@@ -94,15 +94,8 @@ module _ (play : Answers → Outcome Finish (List ℕ)) (r : Recorder) (steps : 
 
     takes_some : (e : Ending) → PlayEnds play (choices_of r) r.refused_bound steps shown e
         → TakesItems play list (given_bounds r) count
-    takes_some endings.End h = takes_ended _ h
-    takes_some endings.Stop h = takes_ended _ h
-    takes_some endings.What h = takes_ended _ h
-    takes_some endings.How h = takes_ended _ h
-    takes_some endings.Sorry h = takes_ended _ h
-    takes_some endings.Limit h = takes_ended _ h
-    takes_some endings.NoInput h = takes_ended _ h
-    takes_some endings.NoAnswer h = absurd h
-    takes_some endings.BadAnswer h = takes_outside _ h
+    takes_some e h = elim (over_or_outside play (choices_of r) r.refused_bound steps shown e h)
+        [ inl over ↦ takes_ended _ over | inr outside ↦ takes_outside _ outside ]
 
     module _ (d : Marked) (states : states_bounds (take count list) (given_bounds r) ≡ true) where
       -- its answer is out of range

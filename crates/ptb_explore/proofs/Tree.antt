@@ -7,7 +7,7 @@ use Rattle.std.proofs.Common.{length-append}
 use Rattle.std.specs.Prelude.{ℤ}
 use Rattle.std.proofs.lemmas.Bool.{cases_Bool}
 use Rattle.std.specs.List.{flat_map}
-use Rattle.ptb_answers.specs.Outcome.{Answers, Outcome, Done, Asks, IsReader, is_open, is_answer}
+use Rattle.ptb_answers.specs.Outcome.{Answers, Outcome, Done, Asks, Out, IsReader, is_open, is_answer}
 use Rattle.ptb_answers.proofs.Readers.{whole_is, open_is, closed_is}
 use Rattle.ptb_explore.specs.RunTree.{IsRun, IsRising, answers_to, leaves, leaves_of, tree}
 use Rattle.ptb_explore.specs.Laws.{TreeLaws}
@@ -37,20 +37,28 @@ module _ {A W : Type 0} (play : Answers → Outcome A W) (most : ℕ) (reads : I
     ]
   ]
 
-  -- each answer of a run is asked for, inside its bound
-  pub run_asks : (q b : Answers) (k : ℤ) → IsRun play (q ++ k ∷ b)
+  -- an answer is asked for, inside its bound, where the play of it and of what follows neither leaves an answer nor
+  -- is out
+  pub next_asks : (q b : Answers) (k : ℤ) → is_open (play q) ≡ true
+      → ((x : A) → play (q ++ k ∷ b) ≡ Done x (k ∷ b) → ⊥)
+      → ((n : ℤ) (w : W) → play (q ++ k ∷ b) ≡ Out n w → ⊥)
       → (n : ℤ) × (w : W) × (play q ≡ Asks n w) × (is_answer n k ≡ true)
-  run_asks q b k r = elim (open_is (play q) (run_open q (k ∷ b) r)) [
-    | inl d ↦ let e = reads.done q (k ∷ b) [] d.0 d.1 in let w = whole_is (play (q ++ k ∷ b)) r in absurd cc
+  next_asks q b k o left out = elim (open_is (play q) o) [
+    | inl d ↦ absurd (left d.0 (reads.done q (k ∷ b) [] d.0 d.1))
     | inr d ↦
-        (d.0, d.1, d.2, elim (cases_Bool (is_answer d.0 k)) [ inl i ↦ i | inr o ↦ absurd (not_outside d.0 d.1 d.2 o) ])
+        (d.0, d.1, d.2, elim (cases_Bool (is_answer d.0 k)) [ inl i ↦ i | inr x ↦ absurd (not_outside d.0 d.1 d.2 x) ])
   ]
     where
       not_outside : (n : ℤ) (w : W) → play q ≡ Asks n w → is_answer n k ≡ false → ⊥
-      not_outside n w e o =
-          let f = reads.out (q ++ k ∷ []) b n w (reads.outside q n k w e o) in
-          let v = whole_is (play (q ++ k ∷ b)) r in
-          let s = append_assoc q (k ∷ []) b in cc
+      not_outside n w e x = out n w (ap play (sym (append_assoc q (k ∷ []) b))
+          ∙ reads.out (q ++ k ∷ []) b n w (reads.outside q n k w e x))
+
+  -- each answer of a run is asked for, inside its bound
+  pub run_asks : (q b : Answers) (k : ℤ) → IsRun play (q ++ k ∷ b)
+      → (n : ℤ) × (w : W) × (play q ≡ Asks n w) × (is_answer n k ≡ true)
+  run_asks q b k r =
+      let w = whole_is (play (q ++ k ∷ b)) r in
+      next_asks q b k (run_open q (k ∷ b) r) (λ x e. absurd cc) (λ n v e. absurd cc)
 
   pub run_apart : (q b : Answers) (k : ℤ) → IsRun play q → IsRun play (q ++ k ∷ b) → ⊥
   run_apart q b k r t = let p = run_asks q b k t in let w = whole_is (play q) r in absurd cc

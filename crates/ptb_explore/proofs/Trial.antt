@@ -1,12 +1,14 @@
 -- This file proves what a recorder holds once its plan was played.
 -- Main lemma: `open_ends`.
-use Rattle.std.proofs.Common.{◌≡◌, ℕ, zero, suc, ◌-◌, ◌≤◌, List, [], ◌∷◌, ◌++◌, length, take, drop}
-use Rattle.std.proofs.Common.{replicate, true, false, refl, ap, sym, ◌∙◌, arith, append-nil}
-use Rattle.std.proofs.Common.{length-append}
+use Rattle.std.proofs.Common.{◌≡◌, ◌⊎◌, inl, inr, ℕ, zero, suc, ◌-◌, ◌≤◌, List, [], ◌∷◌, ◌++◌}
+use Rattle.std.proofs.Common.{length, take, drop, replicate, true, false, refl, ap, sym, ◌∙◌, arith}
+use Rattle.std.proofs.Common.{append-nil, length-append}
 use Rattle.std.proofs.lemmas.List.{length-take-le, take-append-drop, take-append-le}
 use Rattle.std.proofs.Math.Seq.{take-length}
 use Rattle.std.specs.Prelude.{ℤ, pos}
+use Rattle.ptb_answers.specs.Choices.{Choices}
 use Rattle.ptb_answers.specs.Outcome.{Answers, Outcome, Done, IsReader, is_open, is_whole, bounds, bounds_after}
+use Rattle.ptb_explore.proofs.EveryEnding.{every_ending}
 use Rattle.ptb_explore.proofs.Recorded.{given_len, recorded_len, whole_bounds}
 use Rattle.ptb_answers.specs.Asked.{bounds_in}
 use Rattle.ptb_explore.specs.declared.recorder.Recorder.{Recorder}
@@ -14,9 +16,8 @@ use Rattle.ptb_explore.specs.RunTree.{IsRun}
 use Rattle.ptb_explore.specs.Plans.{IsFresh, PlanEndsWith}
 use Rattle.ptb_explore.specs.Recorders.{choices_of, given_bounds, recorded}
 use Rattle.ptb_machine.specs.declared.ending.Ending.{Ending}
-use Rattle.ptb_machine.specs.declared.ending.Ending.TheVariants as endings
 use Rattle.ptb_machine.specs.Play.{Finish}
-use Rattle.ptb_explore.specs.PlannedPlays.{Holds, PlayEnds}
+use Rattle.ptb_explore.specs.PlannedPlays.{Holds, NextIsOutside, PlayEnds}
 use Rattle.ptb_explore.proofs.Bounds.{bounds-append, length-bounds}
 use Rattle.ptb_explore.proofs.Tree.{run_open}
 use Rattle.ptb_explore.proofs.Attempt.{Took, ends_at}
@@ -69,6 +70,17 @@ pub all_bounds : {A W : Type 0} (play : Answers → Outcome A W) (r : Recorder)
     → (given_bounds r) ≡ bounds play (recorded r) → bounds_in r.asked.items ≡ given_bounds r
 all_bounds play r e = whole_bounds r (ap length e ∙ length-bounds play [] (recorded r))
 
+-- the play came to its end, or its next answer is outside the bound of its question
+pub over_or_outside : (play : Answers → Outcome Finish (List ℕ)) (c : Choices) (bound : ℤ) (steps : ℕ) (shown : List ℕ)
+    (e : Ending)
+    → PlayEnds play c bound steps shown e
+    → Holds play c (λ later. Done (record { ending = e; steps = steps; shown = shown }) later)
+    ⊎ NextIsOutside play c bound
+over_or_outside play c bound steps shown e h = every_ending (λ e. PlayEnds play c bound steps shown e
+    → Holds play c (λ later. Done (record { ending = e; steps = steps; shown = shown }) later)
+    ⊎ NextIsOutside play c bound) (λ h. inl h) (λ h. inl h) (λ h. inl h) (λ h. inl h) (λ h. inl h) (λ h. inl h)
+    (λ h. inl h) (λ h. absurd h) (λ h. inr h) e h
+
 module _ (play : Answers → Outcome Finish (List ℕ)) (r : Recorder) (steps : ℕ) (shown : List ℕ) (most : ℕ)
     (reads : IsReader play most) (plan : Answers) (planned : take r.planned (recorded r) ≡ plan) where
   module _ (opens : is_open (play plan) ≡ true) where
@@ -81,17 +93,11 @@ module _ (play : Answers → Outcome Finish (List ℕ)) (r : Recorder) (steps : 
     -- a plan that is open is played to an end
     pub open_ends : (e : Ending) → PlayEnds play (choices_of r) r.refused_bound steps shown e
         → PlanEndsWith play plan (recorded r) (given_bounds r) (record { ending = e; steps = steps; shown = shown })
-    open_ends endings.End h = ended_so endings.End h
-    open_ends endings.Stop h = ended_so endings.Stop h
-    open_ends endings.What h = ended_so endings.What h
-    open_ends endings.How h = ended_so endings.How h
-    open_ends endings.Sorry h = ended_so endings.Sorry h
-    open_ends endings.Limit h = ended_so endings.Limit h
-    open_ends endings.NoInput h = ended_so endings.NoInput h
-    open_ends endings.NoAnswer h = absurd h
-    open_ends endings.BadAnswer h =
-        let closed : is_open (play plan) ≡ false = ap is_open (ap play (sym planned) ∙ h.out) in
-        cc
+    open_ends e h = elim (over_or_outside play (choices_of r) r.refused_bound steps shown e h) [
+      | inl over ↦ ended_so e over
+      | inr outside ↦
+          absurd (let closed : is_open (play plan) ≡ false = ap is_open (ap play (sym planned) ∙ outside.out) in cc)
+    ]
 
   -- a plan that is taken completely, and that nothing follows, is a run
   module _ (taken : length (given_bounds r) ≡ length plan) (alone : length (recorded r) ≡ length plan) where
@@ -133,15 +139,10 @@ module _ (play : Answers → Outcome Finish (List ℕ)) (r : Recorder) (steps : 
     pub whole_plan : (e : Ending) → PlayEnds play (choices_of r) r.refused_bound steps shown e
         → IsRun play plan × ((recorded r) ≡ plan) × ((given_bounds r) ≡ bounds play plan)
         × (play plan ≡ Done (record { ending = e; steps = steps; shown = shown }) [])
-    whole_plan endings.End h = whole_so endings.End h
-    whole_plan endings.Stop h = whole_so endings.Stop h
-    whole_plan endings.What h = whole_so endings.What h
-    whole_plan endings.How h = whole_so endings.How h
-    whole_plan endings.Sorry h = whole_so endings.Sorry h
-    whole_plan endings.Limit h = whole_so endings.Limit h
-    whole_plan endings.NoInput h = whole_so endings.NoInput h
-    whole_plan endings.NoAnswer h = absurd h
-    whole_plan endings.BadAnswer h = absurd (too_long h.next h.later (sym planned ∙ h.plan_is))
+    whole_plan e h = elim (over_or_outside play (choices_of r) r.refused_bound steps shown e h) [
+      | inl over ↦ whole_so e over
+      | inr outside ↦ absurd (too_long outside.next outside.later (sym planned ∙ outside.plan_is))
+    ]
 
   -- a plan of which all answers are taken is open, and the first of the bounds are its own
   module _ (all : length plan ≤ length (given_bounds r)) where
@@ -172,21 +173,16 @@ module _ (play : Answers → Outcome Finish (List ℕ)) (r : Recorder) (steps : 
 
     pub begun_opens : (e : Ending) → PlayEnds play (choices_of r) r.refused_bound steps shown e
         → (is_open (play plan) ≡ true) × (take (length plan) (given_bounds r) ≡ bounds play plan)
-    begun_opens endings.End h = begun_so _ h
-    begun_opens endings.Stop h = begun_so _ h
-    begun_opens endings.What h = begun_so _ h
-    begun_opens endings.How h = begun_so _ h
-    begun_opens endings.Sorry h = begun_so _ h
-    begun_opens endings.Limit h = begun_so _ h
-    begun_opens endings.NoInput h = begun_so _ h
-    begun_opens endings.NoAnswer h = absurd h
-    begun_opens endings.BadAnswer h =
-        let within : length (given_bounds r) ≤ length (recorded r) =
-        omega (arith, r.bounded, (recorded_len r), (given_len r)) in
-        absurd (omega (
-          arith,
-          ap length (sym planned ∙ h.plan_is),
-          length-append (take (length (given_bounds r)) (recorded r)) (h.next ∷ h.later),
-          length-take-le (length (given_bounds r)) (recorded r) within,
-          all,
-        ))
+    begun_opens e h = elim (over_or_outside play (choices_of r) r.refused_bound steps shown e h) [
+      | inl over ↦ begun_so _ over
+      | inr outside ↦
+          let within : length (given_bounds r) ≤ length (recorded r) =
+          omega (arith, r.bounded, (recorded_len r), (given_len r)) in
+          absurd (omega (
+            arith,
+            ap length (sym planned ∙ outside.plan_is),
+            length-append (take (length (given_bounds r)) (recorded r)) (outside.next ∷ outside.later),
+            length-take-le (length (given_bounds r)) (recorded r) within,
+            all,
+          ))
+    ]

@@ -56,19 +56,24 @@ module _ (items : List Marked) (word : List ℕ) (steps : ℕ) (shown : List ℕ
           ap (λ (z : List ℕ). q ++ after_answers word z sized shown) count
           ∙ ap (λ (z : List ℕ). q ++ after_answers word (decimal steps) z shown) size
 
+      -- what a device takes of the last pieces, it takes of the report
+      of_pieces : (Takes : Option (List ℕ) → Option (List ℕ) → List ℕ → Type 0)
+          → ((b c : Option (List ℕ)) (s p x : List ℕ) → Gathers a b s p → Takes b c (p ++ x) → Takes a c (s ++ x))
+          → (d : Option (List ℕ)) → Takes c d (q ++ after_answers word counted sized shown)
+          → Takes a d (report_text items word steps shown)
+      of_pieces Takes more d t =
+          subst (Takes a d) (report_in_pieces items word steps shown)
+          (more c d (codes "RUN " ++ spelling items) q following listed (subst (Takes c d) same_after t))
+
       pub all_written : (d : Option (List ℕ)) {T E : Type 0} (result : Result T E)
           → OnOk result (Appends c d (q ++ after_answers word counted sized shown))
           → OnOk result (Appends a d (report_text items word steps shown))
-      all_written d result h =
-          on_ok_weaker result (λ t. subst (Appends a d) (report_in_pieces items word steps shown) (all_more a c d
-          (codes "RUN " ++ spelling items) q following listed (subst (Appends c d) same_after t))) h
+      all_written d result h = on_ok_weaker result (of_pieces Appends (all_more a) d) h
 
       pub rest_fails : (d : Option (List ℕ)) {T E : Type 0} (result : Result T E)
           → OnErr result (TakesSome c d (q ++ after_answers word counted sized shown))
           → OnErr result (TakesSome a d (report_text items word steps shown))
-      rest_fails d result h =
-          on_err_weaker result (λ t. subst (TakesSome a d) (report_in_pieces items word steps shown) (some_after a c d
-          (codes "RUN " ++ spelling items) q following listed (subst (TakesSome c d) same_after t))) h
+      rest_fails d result h = on_err_weaker result (of_pieces TakesSome (some_after a) d) h
 
 -- ---- a list of answers
 

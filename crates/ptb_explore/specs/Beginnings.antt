@@ -5,6 +5,7 @@
 --     BeginningLaws play most n the laws of these lists
 --     beginning_line form play u    the line of a list: its answers, in a form
 --     Splitting                 what contracts see of a search for these lists
+--     IsSameSearch old new      what is searched stays, wherever the search is
 --     split_play s              what is searched
 --     MovesTo play f f' found   the search is at the next list, or past the last
 --     FindsBeginning play f r found     r has the answers and bounds of the next list, or there is none
@@ -71,6 +72,9 @@ pub record Splitting : Type 0 where
   -- the most answers that a list has
   pub most : ℕ
   pub front : Front
+
+abbrev pub IsSameSearch : Splitting → Splitting → Type 0
+IsSameSearch old new = new ≡ record old { front = new.front }
 
 abbrev pub split_play : Splitting → Answers → Outcome Finish (List ℕ)
 split_play s = play s.program s.input s.rules

@@ -3,11 +3,14 @@
 --     exploration p input ..       an explorer of a program on these lines
 --     play_of e, most_of e         what is played, and how many answers a run can have
 --     game_of r                    what a runner plays
+--     IsSameListing old new        what is explored stays, wherever the explorer is
 --     IsSameGame old new           a runner plays what it did
 --     finish_of r                  how the run of a report ended
 --     Reports play r               r is the report of the run of its answers
 --     NextReports play u f r found it is that of the next run, or there is none
+--     HasRunCopies old new         the copies are of the run of the report
 --     NextLeaves old result new    what the search for the next run leaves
+--     Resumes r common             a plan can be played on from a copy
 --     AreCopiesAt ..               the copies are of the run at which an explorer is
 --     AreKeptAt f runs             the same, of what contracts see of them
 --     IsPlayed play a n            the run of these answers has so many steps
@@ -28,7 +31,9 @@ use Rattle.ptb_explore.specs.declared.plan.Position.{Position}
 use Rattle.ptb_explore.specs.declared.plan.Position.TheVariants.{AtStart, AtRun, AtEnd}
 use Rattle.ptb_explore.specs.declared.report.Report.{Report}
 use Rattle.ptb_explore.specs.declared.runner.Runner.{Runner}
-use Rattle.ptb_explore.specs.Copies.{KeptRun, AreCopies, AreBeginnings, kept_steps, more_played, play_limit}
+use Rattle.ptb_explore.specs.Copies.{KeptRun, Agrees, AreCopies, AreBeginnings, kept_steps, more_played, play_limit}
+use Rattle.ptb_explore.specs.Plans.{IsFresh}
+use Rattle.ptb_explore.specs.Recorders.{recorded}
 use Rattle.ptb_explore.specs.RunTree.{Front, Start, At, End, IsNextRun, IsLast}
 
 -- ---- explorers
@@ -56,6 +61,9 @@ exploration p input rules under front kept played = record {
   kept = kept;
   played = played;
 }
+
+abbrev pub IsSameListing : Exploration → Exploration → Type 0
+IsSameListing old new = new ≡ record old { front = new.front; kept = new.kept; played = new.played }
 
 abbrev pub play_of : Exploration → Answers → Outcome Finish (List ℕ)
 play_of e = play e.program e.input e.rules
@@ -88,6 +96,19 @@ pub record Reports (play : Answers → Outcome Finish (List ℕ)) (r : Report) :
 abbrev pub NextReports : (Answers → Outcome Finish (List ℕ)) → Answers → Front → Report → Bool → Type 0
 NextReports play under f r true = Reports play r × IsNextRun play under f (answers_in r.asked.items)
 NextReports play under f r false = IsLast play under f
+
+-- the copies of a runner that plays on are those of the run of its report
+abbrev pub HasRunCopies : Runner → Runner → Type 0
+HasRunCopies old new = AreCopies old.player old.lines.now old.rules (answers_in new.report.asked.items)
+    new.report.transcript.items new.copies.kept.items
+
+-- a plan can be played on from a copy: it begins with as many answers of the report as `common` says
+pub record Resumes (r : Runner) (common : ℕ) : Type 0 where
+  pub fresh : IsFresh r.trial
+  pub agrees : Agrees (game_of r) common (recorded r.trial) (answers_in r.report.asked.items)
+      (bounds_in r.trial.asked.items)
+  pub copies : AreCopies r.player r.lines.now r.rules (answers_in r.report.asked.items) r.report.transcript.items
+      r.copies.kept.items
 
 -- ---- what is left
 

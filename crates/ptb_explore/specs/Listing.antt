@@ -6,11 +6,15 @@
 --     fault_after fault n               the fault of a writing that a device's fault ended after n reports
 --     NextWrites ..                     what the writing of the next report leaves
 --     WritesRuns ..                     what the writing of a list of reports leaves
+--     FailsToWrite r old new            the writer has failed where a report could not be written
+--     FailsOnlyToWrite r old new        it has not failed otherwise
+--     FailsAfterSome r old new          the same of the reports of a sample, of which some were written
+--     FailsOnlyAfterSome r old new
 use Rattle.std.specs.Prelude.{◌≡◌, ℕ, ◌-◌, ◌^◌, List, [], ◌∷◌, ◌++◌, length, min, Bool, true, false}
-use Rattle.std.specs.Prelude.{◌⊎◌, Option, Some, None, Result, Ok, Err}
+use Rattle.std.specs.Prelude.{◌⊎◌, Option, Some, None, Result, Ok, Err, IsErrOf}
 use Rattle.std.specs.Io.KnownBytes.{Appends}
 use Rattle.std.specs.List.{flat_map}
-use Rattle.ptb_text.specs.Device.{TakesSome}
+use Rattle.ptb_text.specs.Device.{HasFailed, TakesSome}
 use Rattle.ptb_answers.specs.Outcome.{Answers, Outcome}
 use Rattle.ptb_explore.specs.declared.fault.ExploreFault.{ExploreFault}
 use Rattle.ptb_explore.specs.declared.fault.ExploreFault.TheVariants.{Memory, Write}
@@ -24,6 +28,20 @@ text report list = flat_map report list
 abbrev pub front_after : Front → List Answers → Front
 front_after f [] = f
 front_after f (a ∷ list) = front_after (At a) list
+
+-- how often the writer had failed before and after, by the result of one report
+abbrev pub FailsToWrite : {T : Type 0} → Result T DeviceFault → ℕ → ℕ → Type 0
+FailsToWrite result old new = IsErrOf result next.Write → HasFailed old new
+
+abbrev pub FailsOnlyToWrite : {T : Type 0} → Result T DeviceFault → ℕ → ℕ → Type 0
+FailsOnlyToWrite result old new = ¬ IsErrOf result next.Write → new ≡ old
+
+-- and by that of several
+abbrev pub FailsAfterSome : {T : Type 0} → Result T ExploreFault → ℕ → ℕ → Type 0
+FailsAfterSome result old new = (n : ℕ) → IsErrOf result (Write n) → HasFailed old new
+
+abbrev pub FailsOnlyAfterSome : {T : Type 0} → Result T ExploreFault → ℕ → ℕ → Type 0
+FailsOnlyAfterSome result old new = ((n : ℕ) → ¬ IsErrOf result (Write n)) → new ≡ old
 
 -- how many may still be written after one more
 abbrev pub less_one : Option ℕ → Option ℕ

@@ -7,14 +7,20 @@
 --                                             item is missing
 --     TakesItems play list bounds n           the first n items are taken, and the first of the bounds are those of
 --                                             their questions
+--     Explains why trial ending found         what was found is why a play with the list came to this ending
 --     MismatchLaws play                       there is one mismatch exactly where a list is no run, or begins none
-use Rattle.std.specs.Prelude.{◌≡◌, ℕ, ◌+◌, ◌≤◌, List, ◌∷◌, ◌++◌, length, take, true, false, Option, ℤ, ◌↔◌}
-use Rattle.ptb_answers.specs.Outcome.{Answers, Outcome, Asks, is_answer, is_open, bounds}
+use Rattle.std.specs.Prelude.{◌≡◌, ℕ, ◌+◌, ◌≤◌, List, ◌∷◌, ◌++◌, length, take, true, false, Option, IfSome, ℤ, ◌↔◌}
+use Rattle.ptb_answers.specs.Outcome.{Answers, Outcome, Asks, IsReader, is_answer, is_open, bounds}
 use Rattle.ptb_answers.specs.declared.form.Marked.{Marked}
 use Rattle.ptb_answers.specs.AnswerText.{answers_of, with_bound}
+use Rattle.ptb_machine.specs.declared.ending.Ending.{Ending}
+use Rattle.ptb_machine.specs.Play.{Finish}
 use Rattle.ptb_explore.specs.declared.mismatch.Mismatch.{Mismatch}
 use Rattle.ptb_explore.specs.declared.mismatch.Mismatch.TheVariants.{OutOfRange, OtherBound}
 use Rattle.ptb_explore.specs.declared.mismatch.Mismatch.TheVariants.{NoQuestion, Missing, NotUnder}
+use Rattle.ptb_explore.specs.declared.recorder.Recorder.{Recorder}
+use Rattle.ptb_explore.specs.PlannedPlays.{PlayEnds}
+use Rattle.ptb_explore.specs.Recorders.{choices_of}
 use Rattle.ptb_explore.specs.MarkedRuns.{IsMarkedRun, IsMarkedBeginning}
 use Rattle.ptb_explore.specs.RunTree.{begins_with}
 
@@ -101,3 +107,10 @@ pub record MismatchLaws {A W : Type 0} (play : Answers → Outcome A W) : Type 0
       → (IsMarkedRun play list × IsUnder under list → ⊥) ↔ ((m : Mismatch) × IsRunMismatch play under list m)
   pub one_run : (under list : List Marked) (m n : Mismatch) → IsRunMismatch play under list m
       → IsRunMismatch play under list n → m ≡ n
+
+-- what was found says why, of each game in which the list's answers came to this ending
+abbrev pub Explains : ((Answers → Outcome Finish (List ℕ)) → Mismatch → Type 0) → Recorder → Ending → Option Mismatch
+    → Type 0
+Explains Why trial ending found = (game : Answers → Outcome Finish (List ℕ)) (most steps : ℕ) (shown : List ℕ)
+    → IsReader game most → PlayEnds game (choices_of trial) trial.refused_bound steps shown ending
+    → IfSome found (Why game)

@@ -7,10 +7,10 @@ ghost use Rattle.ptb_text.specs.Device.{HasFailed};
 ghost use Rattle.ptb_answers.specs.Asked.{answers_in, bounds_in};
 ghost use Rattle.ptb_explore.specs.Recorders.{recorded};
 ghost use Rattle.ptb_explore.specs.Beginnings.{beginning_line, split_play, stopped};
-ghost use Rattle.ptb_explore.specs.Beginnings.{FindsBeginning, MovesTo};
+ghost use Rattle.ptb_explore.specs.Beginnings.{FindsBeginning, IsSameSearch, MovesTo};
 ghost use Rattle.ptb_explore.specs.Copies.{Agrees, AreCopies, PlaysOn, kept_runs};
-ghost use Rattle.ptb_explore.specs.Explorations.{AreCopiesAt, IsSameGame, NextPlays, game_of};
-ghost use Rattle.ptb_explore.specs.Listing.{NextWrites, WritesRuns};
+ghost use Rattle.ptb_explore.specs.Explorations.{AreCopiesAt, HasRunCopies, IsSameGame, NextPlays, game_of};
+ghost use Rattle.ptb_explore.specs.Listing.{FailsToWrite, FailsOnlyToWrite, NextWrites, WritesRuns};
 ghost use Rattle.ptb_explore.specs.Plans.{PlanEndsWith, IsFresh, IsPosition, front_at};
 ghost use Rattle.ptb_explore.specs.RunTree.{At, IsLast, Start, runs_left};
 
@@ -43,9 +43,7 @@ fn play_beginning(runner: &mut Runner, common: usize, most: usize) -> Result<(),
         (recorded runner.old.trial) (answers_in runner.new.report.asked.items)
         (bounds_in runner.new.report.asked.items) tt) }
     ensures asked { OnErr result (runner.new.report.asked.items ≡ runner.old.report.asked.items) }
-    ensures copies { OnOk result (AreCopies runner.old.player runner.old.lines.now runner.old.rules
-        (answers_in runner.new.report.asked.items) runner.new.report.transcript.items
-        runner.new.copies.kept.items) }
+    ensures copies { OnOk result (HasRunCopies runner.old runner.new) }
     ensures played { OnOk result (PlaysOn common runner.old.copies.kept.items runner.old.played
         runner.new.report.steps runner.new.played) }
 {
@@ -70,9 +68,7 @@ fn find_beginning(runner: &mut Runner, most: usize, position: Position) -> Resul
     ensures asked { OnErr result (runner.new.report.asked.items ≡ runner.old.report.asked.items) }
     ensures ended { IsLast (stopped most (game_of runner.old)) []
         (front_at position (answers_in runner.old.report.asked.items)) → result ≡ Ok false }
-    ensures copies { IfOk result (λ found. IsTrue found → AreCopies runner.old.player
-        runner.old.lines.now runner.old.rules (answers_in runner.new.report.asked.items)
-        runner.new.report.transcript.items runner.new.copies.kept.items) }
+    ensures copies { IfOk result (λ found. IsTrue found → HasRunCopies runner.old runner.new) }
     ensures played { IfOk result (NextPlays
         (kept_runs (answers_in runner.old.report.asked.items) runner.old.copies.kept.items)
         runner.old.played runner.new.report runner.new.played) }
@@ -212,14 +208,12 @@ fn write_next_line<W: Write>(
     form: Form,
     writer: &mut W,
 ) -> Result<bool, DeviceFault>
-    ensures same { beginnings.new ≡ record beginnings.old { front = beginnings.new.front } }
+    ensures same { IsSameSearch beginnings.old beginnings.new }
     ensures writes { NextWrites (stopped beginnings.old.most (split_play beginnings.old)) []
         (beginning_line form (split_play beginnings.old)) beginnings.old.front beginnings.new.front
         (W.contents writer.old) (W.contents writer.new) result }
-    ensures failed { IsErrOf result DeviceFault.Write
-        → HasFailed (W.failures writer.old) (W.failures writer.new) }
-    ensures unfailed { ¬ IsErrOf result DeviceFault.Write
-        → W.failures writer.new ≡ W.failures writer.old }
+    ensures failed { FailsToWrite result (W.failures writer.old) (W.failures writer.new) }
+    ensures unfailed { FailsOnlyToWrite result (W.failures writer.old) (W.failures writer.new) }
 {
     match beginnings.next() {
         Err(_) => Err(DeviceFault::Memory),

@@ -2,8 +2,9 @@
 
 ghost use Rattle.std.specs.Prelude.{◌≡◌, ◌≤◌, ℕ, IsErrOf};
 ghost use Rattle.ptb_text.specs.Device.{HasFailed};
-ghost use Rattle.ptb_explore.specs.Explorations.{play_of, most_of};
+ghost use Rattle.ptb_explore.specs.Explorations.{play_of, most_of, IsSameListing};
 ghost use Rattle.ptb_explore.specs.Listing.{less_one, NextWrites, WritesRuns};
+ghost use Rattle.ptb_explore.specs.Listing.{FailsToWrite, FailsOnlyToWrite};
 ghost use Rattle.ptb_explore.specs.Report.{report};
 ghost use Rattle.ptb_explore.specs.RunTree.{runs_left};
 
@@ -21,19 +22,13 @@ fn write_next<W: Write>(
     reports: &mut ReportWriter,
     writer: &mut W,
 ) -> Result<bool, DeviceFault>
-    ensures same { explorer.new ≡ record explorer.old {
-      front = explorer.new.front;
-      kept = explorer.new.kept;
-      played = explorer.new.played;
-    } }
+    ensures same { IsSameListing explorer.old explorer.new }
     ensures rises { explorer.old.played ≤ explorer.new.played }
     ensures writes { NextWrites (play_of explorer.old) explorer.old.under
         (report form (play_of explorer.old)) explorer.old.front explorer.new.front
         (W.contents writer.old) (W.contents writer.new) result }
-    ensures failed { IsErrOf result DeviceFault.Write
-        → HasFailed (W.failures writer.old) (W.failures writer.new) }
-    ensures unfailed { ¬ IsErrOf result DeviceFault.Write
-        → W.failures writer.new ≡ W.failures writer.old }
+    ensures failed { FailsToWrite result (W.failures writer.old) (W.failures writer.new) }
+    ensures unfailed { FailsOnlyToWrite result (W.failures writer.old) (W.failures writer.new) }
 {
     match explorer.next() {
         Err(_) => Err(DeviceFault::Memory),

@@ -6,9 +6,8 @@ ghost use Rattle.ptb_answers.specs.AnswerText.{answers_of};
 ghost use Rattle.ptb_answers.specs.Asked.{bounds_in};
 ghost use Rattle.ptb_machine.specs.Play.{Finish};
 ghost use Rattle.ptb_explore.specs.MarkedRuns.{states_bounds};
-ghost use Rattle.ptb_explore.specs.Mismatch.{IsItemMismatch, IsRunMismatch, MismatchLaws, TakesItems};
+ghost use Rattle.ptb_explore.specs.Mismatch.{Explains, IsItemMismatch, IsRunMismatch, MismatchLaws, TakesItems};
 ghost use Rattle.ptb_explore.specs.Plans.{IsTaken, IsTakenAlone};
-ghost use Rattle.ptb_explore.specs.PlannedPlays.{PlayEnds};
 ghost use Rattle.ptb_explore.specs.Recorders.{choices_of};
 
 use crate::recorder::Recorder;
@@ -76,10 +75,7 @@ fn bound_mismatch(list: &[Marked], taken: usize, asked: &[Asked]) -> Option<Mism
 pub(crate) fn item_mismatch(list: &[Marked], trial: &Recorder, ending: Ending) -> Option<Mismatch>
     requires { (choices_of trial.now).plan ≡ answers_of list.now }
     ensures taken { IfNone result (IsTaken (length list.now) list.now trial.now) }
-    ensures mismatch { (game : Answers → Outcome Finish (List ℕ)) (most steps : ℕ) (shown : List ℕ)
-        → IsReader game most
-        → PlayEnds game (choices_of trial.now) trial.now.refused_bound steps shown ending
-        → IfSome result (IsItemMismatch game list.now) }
+    ensures mismatch { Explains (λ game. IsItemMismatch game list.now) trial.now ending result }
 {
     let taken = trial.given.min(list.len());
     let found = bound_mismatch(list, taken, &trial.asked[..trial.given]);
@@ -104,10 +100,7 @@ pub(crate) fn item_mismatch(list: &[Marked], trial: &Recorder, ending: Ending) -
 pub(crate) fn run_mismatch(list: &[Marked], trial: &Recorder, ending: Ending) -> Option<Mismatch>
     requires { (choices_of trial.now).plan ≡ answers_of list.now }
     ensures taken { IfNone result (IsTakenAlone (length list.now) list.now trial.now) }
-    ensures mismatch { (game : Answers → Outcome Finish (List ℕ)) (most steps : ℕ) (shown : List ℕ)
-        → IsReader game most
-        → PlayEnds game (choices_of trial.now) trial.now.refused_bound steps shown ending
-        → IfSome result (IsRunMismatch game [] list.now) }
+    ensures mismatch { Explains (λ game. IsRunMismatch game [] list.now) trial.now ending result }
 {
     let found = item_mismatch(list, trial, ending);
     if found.is_some() {

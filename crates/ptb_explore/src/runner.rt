@@ -9,7 +9,7 @@ ghost use Rattle.ptb_answers.specs.Asked.{answers_in, bounds_in};
 ghost use Rattle.ptb_explore.specs.Copies.{Agrees, AreCopies, PlaysOn, WentBack};
 ghost use Rattle.ptb_explore.specs.Copies.{kept_runs, last_steps, play_limit};
 ghost use Rattle.ptb_explore.specs.Explorations.{game_of, finish_of, AreCopiesAt, IsSameGame};
-ghost use Rattle.ptb_explore.specs.Explorations.{NextPlays, NextReports};
+ghost use Rattle.ptb_explore.specs.Explorations.{HasRunCopies, NextPlays, NextReports, Resumes};
 ghost use Rattle.ptb_explore.specs.PlannedPlays.{IsRunPrefix, PlayEnds};
 ghost use Rattle.ptb_explore.specs.Plans.{front_at, PlanEndsWith, IsFresh, IsPosition};
 ghost use Rattle.ptb_explore.specs.Recorders.{choices_of, recorded};
@@ -139,13 +139,7 @@ impl<'a> Runner<'a> {
     ///
     /// Where a growth was refused memory.
     pub(crate) fn play_plan(&mut self, common: usize) -> Result<(), AllocError>
-        requires fresh { IsFresh self.old.trial }
-        requires agrees { Agrees (game_of self.old) common
-            (recorded self.old.trial) (answers_in self.old.report.asked.items)
-            (bounds_in self.old.trial.asked.items) }
-        requires copies { AreCopies self.old.player self.old.lines.now self.old.rules
-            (answers_in self.old.report.asked.items) self.old.report.transcript.items
-            self.old.copies.kept.items }
+        requires { Resumes self.old common }
         ensures same { IsSameGame self.old self.new }
         ensures plan { OnOk result
             ((choices_of self.new.trial).plan ≡ recorded self.old.trial) }
@@ -177,22 +171,14 @@ impl<'a> Runner<'a> {
 
     // Plays a plan as play_plan does, and makes the report of its run.
     fn report_plan(&mut self, common: usize) -> Result<(), AllocError>
-        requires fresh { IsFresh self.old.trial }
+        requires resumes { Resumes self.old common }
         requires opens { is_open (game_of self.old (recorded self.old.trial)) ≡ true }
-        requires agrees { Agrees (game_of self.old) common
-            (recorded self.old.trial) (answers_in self.old.report.asked.items)
-            (bounds_in self.old.trial.asked.items) }
-        requires copies { AreCopies self.old.player self.old.lines.now self.old.rules
-            (answers_in self.old.report.asked.items) self.old.report.transcript.items
-            self.old.copies.kept.items }
         ensures same { IsSameGame self.old self.new }
         ensures ends { OnOk result (PlanEndsWith (game_of self.old) (recorded self.old.trial)
             (answers_in self.new.report.asked.items) (bounds_in self.new.report.asked.items)
             (finish_of self.new.report)) }
         ensures asked { OnErr result (self.new.report.asked.items ≡ self.old.report.asked.items) }
-        ensures copies { OnOk result (AreCopies self.old.player self.old.lines.now self.old.rules
-            (answers_in self.new.report.asked.items) self.new.report.transcript.items
-            self.new.copies.kept.items) }
+        ensures copies { OnOk result (HasRunCopies self.old self.new) }
         ensures played { OnOk result (PlaysOn common self.old.copies.kept.items self.old.played
             self.new.report.steps self.new.played) }
         ensures rises { self.old.played ≤ self.new.played }
@@ -225,9 +211,7 @@ impl<'a> Runner<'a> {
         ensures asked { OnErr result (self.new.report.asked.items ≡ self.old.report.asked.items) }
         ensures ended { IsLast (game_of self.old) (answers_of under.now)
             (front_at position (answers_in self.old.report.asked.items)) → result ≡ Ok false }
-        ensures copies { IfOk result (λ found. IsTrue found → AreCopies self.old.player
-            self.old.lines.now self.old.rules (answers_in self.new.report.asked.items)
-            self.new.report.transcript.items self.new.copies.kept.items) }
+        ensures copies { IfOk result (λ found. IsTrue found → HasRunCopies self.old self.new) }
         ensures played { IfOk result (NextPlays
             (kept_runs (answers_in self.old.report.asked.items) self.old.copies.kept.items)
             self.old.played self.new.report self.new.played) }

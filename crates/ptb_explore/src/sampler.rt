@@ -8,6 +8,8 @@ ghost use Rattle.ptb_machine.specs.Representation.{Represents};
 ghost use Rattle.ptb_machine.specs.State.{first_state};
 ghost use Rattle.ptb_machine.specs.Play.{play};
 ghost use Rattle.ptb_machine.specs.Questions.{most_answers};
+ghost use Rattle.ptb_explore.specs.Listing.{FailsToWrite, FailsOnlyToWrite};
+ghost use Rattle.ptb_explore.specs.Listing.{FailsAfterSome, FailsOnlyAfterSome};
 ghost use Rattle.ptb_explore.specs.Report.{report};
 ghost use Rattle.ptb_explore.specs.Sampling.{PlaysDrawn, SampleLaws, WritesRun, WritesSample};
 
@@ -130,10 +132,8 @@ fn write_run<W: Write>(
           sampler.old.chooser.first (play sampler.old.player lines.now rules)));
       bounds = [];
     }) }
-    ensures failed { IsErrOf result DeviceFault.Write
-        → HasFailed (W.failures writer.old) (W.failures writer.new) }
-    ensures unfailed { ¬ IsErrOf result DeviceFault.Write
-        → W.failures writer.new ≡ W.failures writer.old }
+    ensures failed { FailsToWrite result (W.failures writer.old) (W.failures writer.new) }
+    ensures unfailed { FailsOnlyToWrite result (W.failures writer.old) (W.failures writer.new) }
 {
     run_laws();
     let Ok(ending) = play_next(alloc, sampler, lines, rules) else {
@@ -170,10 +170,8 @@ fn write_runs<W: Write>(
         (sampled_runs (most_answers sampler.old.player lines.now rules.limit)
         (play sampler.old.player lines.now rules) sampler.old.chooser.first sample.runs)
         (W.contents writer.old) (W.contents writer.new) result }
-    ensures failed { (n : ℕ) → IsErrOf result (ExploreFault.Write n)
-        → HasFailed (W.failures writer.old) (W.failures writer.new) }
-    ensures unfailed { ((n : ℕ) → ¬ IsErrOf result (ExploreFault.Write n))
-        → W.failures writer.new ≡ W.failures writer.old }
+    ensures failed { FailsAfterSome result (W.failures writer.old) (W.failures writer.new) }
+    ensures unfailed { FailsOnlyAfterSome result (W.failures writer.old) (W.failures writer.new) }
 {
     run_laws();
     let Sample { runs, form, .. } = sample;

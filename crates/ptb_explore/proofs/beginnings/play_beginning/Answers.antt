@@ -5,6 +5,7 @@ use Rattle.std.proofs.lemmas.Result.{IfOk-from_err}
 use Rattle.ptb_machine.specs.Play.{play}
 use Rattle.ptb_machine.specs.Questions.{most_answers}
 use Rattle.ptb_answers.specs.Asked.{answers_in, bounds_in}
+use Rattle.ptb_explore.specs.Explorations.{game_of}
 use Rattle.ptb_explore.specs.Recorders.{choices_of, recorded}
 use Rattle.ptb_explore.proofs.WrittenTexts.{on_err_always}
 use Rattle.ptb_explore.proofs.Keep.{kept_same}
@@ -40,26 +41,21 @@ play_plan-requires c =
 
 pub returns-clause-ends : goal.returns-clause-ends
 returns-clause-ends c =
-    let p = c.args.runner.now.player in
-    let input = c.args.runner.now.lines.now in
-    let rules = c.args.runner.now.rules in
-    let report = c.play_plan.new.self.report in
-    let trial = c.play_plan.new.self.trial in
-    let run = beginning_ends (play p input rules) (most_answers p input rules.limit) (c.run_laws.ensures.reads p input
-    rules) c.args.most (recorded c.args.runner.now.trial) c.requires.within c.requires.opens
-    trial (c.in_ok-play_plan.ensures.plan ∙ c.in_ok-stop_after.ensures.answers) report.steps report.transcript.items
-    report.ending c.in_ok-play_plan.ensures.ends in
-    rw (c.hand_over.ensures.asked, c.keep_given.ensures.asked, given_answers trial) run
+    let old = c.args.runner.now in
+    let new = c.play_plan.new.self in
+    let run = beginning_ends (game_of old) (most_answers old.player old.lines.now old.rules.limit)
+    (c.run_laws.ensures.reads old.player old.lines.now old.rules) c.args.most (recorded old.trial) c.requires.within
+    c.requires.opens new.trial (c.in_ok-play_plan.ensures.plan ∙ c.in_ok-stop_after.ensures.answers) new.report.steps
+    new.report.transcript.items new.report.ending c.in_ok-play_plan.ensures.ends in
+    rw (c.hand_over.ensures.asked, c.keep_given.ensures.asked, given_answers new.trial) run
 
 pub returns-clause-copies : goal.returns-clause-copies
 returns-clause-copies c =
-    let p = c.args.runner.now.player in
-    let input = c.args.runner.now.lines.now in
-    let report = c.play_plan.new.self.report in
-    let trial = c.play_plan.new.self.trial in
-    kept_same p p input input c.args.runner.now.rules (choices_of trial).taken _ report.transcript.items _
-    c.play_plan.new.self.copies.kept.items _ refl refl
-    (ap answers_in (c.hand_over.ensures.asked ∙ c.keep_given.ensures.asked) ∙ given_answers trial) refl refl
+    let old = c.args.runner.now in
+    let new = c.play_plan.new.self in
+    kept_same old.player old.player old.lines.now old.lines.now old.rules (choices_of new.trial).taken _
+    new.report.transcript.items _ new.copies.kept.items _ refl refl
+    (ap answers_in (c.hand_over.ensures.asked ∙ c.keep_given.ensures.asked) ∙ given_answers new.trial) refl refl
     c.in_ok-play_plan.ensures.copies
 
 pub returns-in_err-stop_after : goal.returns-in_err-stop_after

@@ -12,9 +12,29 @@ use Rattle.ptb_explore.specs.Recorders.{choices_of, given_bounds}
 use Rattle.ptb_explore.proofs.Mismatches.{if_none_at, none_is}
 use Rattle.ptb_explore.proofs.TakenItems.{stops_outside, stops_over, takes_items}
 use Rattle.ptb_explore.proofs.mismatch.item_mismatch.Goals as goal
+use Rattle.ptb_explore.proofs.mismatch.item_mismatch.Goals.{After-eq}
 
 abbrev none : Marked
 none = without_bound (pos 0)
+
+-- some items were not taken, and the bounds of the others are those that were seen
+stated : (c : After-eq)
+    → (c.min-taken.result ≡ length (given_bounds c.args.trial.now))
+    × (length (given_bounds c.args.trial.now) < length c.args.list.now)
+    × (states_bounds (take (length (given_bounds c.args.trial.now)) c.args.list.now) (given_bounds c.args.trial.now)
+    ≡ true)
+stated c =
+    let trial = c.args.trial.now in
+    let list = c.args.list.now in
+    let n : c.min-taken.result ≡ length (given_bounds trial) =
+    omega (arith, c.min-taken.ensures, (given_len trial), c.if-taken-list.false) in
+    let less : length (given_bounds trial) < length list =
+    omega (arith, c.min-taken.ensures, (given_len trial), c.if-taken-list.false) in
+    let found = if_none_at (none_is c.bound_mismatch-found.result c.if-is_some.ensures)
+    c.bound_mismatch-found.ensures.states in
+    let states : states_bounds (take (length (given_bounds trial)) list) (given_bounds trial) ≡ true =
+    rw (n, c.deref.ensures.value) at found in
+    (n, less, states)
 
 pub returns-then-is_some-clause-mismatch : goal.returns-then-is_some-clause-mismatch
 returns-then-is_some-clause-mismatch c = λ game most steps shown reads h.
@@ -34,14 +54,7 @@ pub returns-then-eq-clause-mismatch : goal.returns-then-eq-clause-mismatch
 returns-then-eq-clause-mismatch c = λ game most steps shown reads h.
     let trial = c.args.trial.now in
     let list = c.args.list.now in
-    let n : c.min-taken.result ≡ length (given_bounds trial) =
-    omega (arith, c.min-taken.ensures, (given_len trial), c.if-taken-list.false) in
-    let less : length (given_bounds trial) < length list =
-    omega (arith, c.min-taken.ensures, (given_len trial), c.if-taken-list.false) in
-    let found = if_none_at (none_is c.bound_mismatch-found.result c.if-is_some.ensures)
-    c.bound_mismatch-found.ensures.states in
-    let states : states_bounds (take (length (given_bounds trial)) list) (given_bounds trial) ≡ true =
-    rw (n, c.deref.ensures.value) at found in
+    let known = stated (goal.at.returns-then-eq-clause-mismatch c).After-eq in
     let is : c.args.ending ≡ endings.BadAnswer = search (rules, c.eq.ensures, c.if-eq.true) in
     let outside = subst (PlayEnds game (choices_of trial) trial.refused_bound steps shown) is h in
     let answer : ℤ = (get_or list c.min-taken.result none).answer in
@@ -49,20 +62,13 @@ returns-then-eq-clause-mismatch c = λ game most steps shown reads h.
     let bound_fits : FitsSigned w16 trial.refused_bound = search rules in
     let answer_is : to_z w16 (of_z w16 answer) ≡ answer = to_z-of_z answer_fits in
     let bound_is : to_z w16 (of_z w16 trial.refused_bound) ≡ trial.refused_bound = to_z-of_z bound_fits in
-    rw (answer_is, bound_is, n)
-    (stops_outside game trial steps shown most reads list c.requires less none states outside)
+    rw (answer_is, bound_is, known.0)
+    (stops_outside game trial steps shown most reads list c.requires known.1 none known.2 outside)
 
 pub returns-clause-mismatch : goal.returns-clause-mismatch
 returns-clause-mismatch c = λ game most steps shown reads h.
     let trial = c.args.trial.now in
     let list = c.args.list.now in
-    let n : c.min-taken.result ≡ length (given_bounds trial) =
-    omega (arith, c.min-taken.ensures, (given_len trial), c.if-taken-list.false) in
-    let less : length (given_bounds trial) < length list =
-    omega (arith, c.min-taken.ensures, (given_len trial), c.if-taken-list.false) in
-    let found = if_none_at (none_is c.bound_mismatch-found.result c.if-is_some.ensures)
-    c.bound_mismatch-found.ensures.states in
-    let states : states_bounds (take (length (given_bounds trial)) list) (given_bounds trial) ≡ true =
-    rw (n, c.deref.ensures.value) at found in
+    let known = stated (goal.at.returns-clause-mismatch c).After-eq in
     let other : c.args.ending ≡ endings.BadAnswer → ⊥ = search (rules, c.eq.ensures, c.if-eq.false) in
-    rw n (stops_over game trial steps shown most reads list c.requires less none states c.args.ending other h)
+    rw known.0 (stops_over game trial steps shown most reads list c.requires known.1 none known.2 c.args.ending other h)

@@ -8,6 +8,7 @@ use Rattle.ptb_answers.specs.declared.form.Marked.{Marked}
 use Rattle.ptb_answers.specs.AnswerText.{bound_text, item_text}
 use Rattle.ptb_text.proofs.GatheredBytes.{gathers_same}
 use Rattle.ptb_explore.proofs.report_text.put_item.Goals as goal
+use Rattle.ptb_explore.proofs.report_text.put_item.Goals.{After-as_bytes-answer, After-put_all-in-Some}
 
 with_number : (p s a b : List ℕ) (m : Marked) (n : ℤ) → a ≡ signed_decimal m.answer → b ≡ signed_decimal n
     → m.bound ≡ Some n
@@ -23,42 +24,44 @@ without_number p s a m is_a bound =
     ap (λ x. p ++ (s ++ (x ++ []))) is_a ∙ ap (λ (o : Option ℤ). p ++ (s ++ (signed_decimal m.answer ++ bound_text o)))
     (sym bound)
 
+-- the answer is written as its digits
+digits_are : (g : _) (c : After-as_bytes-answer g)
+    → c.as_bytes-answer.result.now ≡ signed_decimal c.args.item.answer
+digits_are g c =
+    let fits : FitsSigned w16 c.args.item.answer = search rules in
+    c.as_bytes-answer.ensures.value ∙ c.format.ensures.text ∙ ap signed_decimal (to_z-of_z fits)
+
+-- and its bound after it
+bound_added : (g : _) (c : After-put_all-in-Some g)
+    → c.as_bytes-answer.result.now ≡ signed_decimal c.args.item.answer
+    → c.args.pending.now ++ (c.args.separator.now ++ (c.as_bytes-answer.result.now ++ (codes "/"
+    ++ (c.as_bytes-bound.result.now ++ [])))) ≡ c.args.pending.now ++ (c.args.separator.now ++ item_text c.args.item)
+bound_added g c digits =
+    let fits : FitsSigned w16 c.in-Some.number = search rules in
+    with_number c.args.pending.now c.args.separator.now _ _ c.args.item c.in-Some.number
+    digits
+    (c.as_bytes-bound.ensures.value ∙ c.format-in-Some.ensures.text ∙ ap signed_decimal (to_z-of_z fits)) c.in-Some.is
+
 pub returns-in-Some-clause-ok : goal.returns-in-Some-clause-ok
 returns-in-Some-clause-ok g c =
-    let k = c.args.item.answer in
-    let n = c.in-Some.number in
-    let fits : FitsSigned w16 k = search rules in
-    let fits_bound : FitsSigned w16 n = search rules in
-    let whole = with_number c.args.pending.now c.args.separator.now _ _ c.args.item n
-    (c.as_bytes-answer.ensures.value ∙ c.format.ensures.text ∙ ap signed_decimal (to_z-of_z fits))
-    (c.as_bytes-bound.ensures.value ∙ c.format-in-Some.ensures.text ∙ ap signed_decimal (to_z-of_z fits_bound))
-    c.in-Some.is in
+    let at = goal.at.returns-in-Some-clause-ok g c in
+    let whole = bound_added g at.After-put_all-in-Some (digits_are g at.After-as_bytes-answer) in
     on_ok_weaker c.put_all-in-Some.result (λ e. gathers_same whole e) c.put_all-in-Some.ensures.ok
 
 pub returns-in-Some-clause-fault : goal.returns-in-Some-clause-fault
 returns-in-Some-clause-fault g c =
-    let k = c.args.item.answer in
-    let n = c.in-Some.number in
-    let fits : FitsSigned w16 k = search rules in
-    let fits_bound : FitsSigned w16 n = search rules in
-    let whole = with_number c.args.pending.now c.args.separator.now _ _ c.args.item n
-    (c.as_bytes-answer.ensures.value ∙ c.format.ensures.text ∙ ap signed_decimal (to_z-of_z fits))
-    (c.as_bytes-bound.ensures.value ∙ c.format-in-Some.ensures.text ∙ ap signed_decimal (to_z-of_z fits_bound))
-    c.in-Some.is in
+    let at = goal.at.returns-in-Some-clause-fault g c in
+    let whole = bound_added g at.After-put_all-in-Some (digits_are g at.After-as_bytes-answer) in
     on_err_weaker c.put_all-in-Some.result (λ e. subst (TakesSome _ _) whole e) c.put_all-in-Some.ensures.fault
 
 pub returns-in-None-clause-ok : goal.returns-in-None-clause-ok
 returns-in-None-clause-ok g c =
-    let k = c.args.item.answer in
-    let fits : FitsSigned w16 k = search rules in
     let whole = without_number c.args.pending.now c.args.separator.now _ c.args.item
-    (c.as_bytes-answer.ensures.value ∙ c.format.ensures.text ∙ ap signed_decimal (to_z-of_z fits)) c.in-None.is in
+    (digits_are g (goal.at.returns-in-None-clause-ok g c).After-as_bytes-answer) c.in-None.is in
     on_ok_weaker c.put_all.result (λ e. gathers_same whole e) c.put_all.ensures.ok
 
 pub returns-in-None-clause-fault : goal.returns-in-None-clause-fault
 returns-in-None-clause-fault g c =
-    let k = c.args.item.answer in
-    let fits : FitsSigned w16 k = search rules in
     let whole = without_number c.args.pending.now c.args.separator.now _ c.args.item
-    (c.as_bytes-answer.ensures.value ∙ c.format.ensures.text ∙ ap signed_decimal (to_z-of_z fits)) c.in-None.is in
+    (digits_are g (goal.at.returns-in-None-clause-fault g c).After-as_bytes-answer) c.in-None.is in
     on_err_weaker c.put_all.result (λ e. subst (TakesSome _ _) whole e) c.put_all.ensures.fault

@@ -3,12 +3,11 @@ use Rattle.std.proofs.Common.{arith, rules, ◌≡◌, ◌∙◌, ap, sym, ◌<�
 use Rattle.std.proofs.lemmas.List.{take_all}
 use Rattle.ptb_answers.specs.AnswerText.{in_form, item_text}
 use Rattle.std.specs.Prelude.{◌==◌, if◌then◌else◌, codes}
-use Rattle.ptb_answers.specs.declared.asked.Asked.{Asked}
 use Rattle.ptb_answers.specs.declared.form.Marked.{Marked}
 use Rattle.ptb_explore.specs.Begun.{begun, item_of}
 use Rattle.ptb_explore.specs.ReportText.{asked_items}
 use Rattle.ptb_explore.proofs.HeaderPrefixes.{begins_kept, ends_kept, is_in_form, items_kept, most_kept, text_added}
-use Rattle.ptb_explore.proofs.AskedLists.{asked_at, length-asked_items}
+use Rattle.ptb_explore.proofs.AskedLists.{asked_at, item_for, question_at, length-asked_items}
 use Rattle.ptb_explore.proofs.report_writer.add_items.Goals as goal
 
 pub returns-then-room-lt-ITEM_ROOM-clause-begins : goal.returns-then-room-lt-ITEM_ROOM-clause-begins
@@ -19,16 +18,14 @@ returns-then-room-lt-ITEM_ROOM-clause-begins c =
 pub loop-k-preserved : goal.loop-k-preserved
 loop-k-preserved c =
     let k = c.loop-k.k in
-    let form = c.args.form in
     let asked = c.args.asked.now in
-    let items = asked_items form asked in
-    let q : Asked = get_or asked k (record { answer = pos 0; bound = pos 0 }) in
-    let m : Marked = in_form form (get_or asked k q).answer (get_or asked k q).bound in
-    let within : k < length items = omega (arith, c.loop-k-test.true, length-asked_items form asked) in
-    let next : m ≡ get_or items k m = sym (asked_at form asked k q m c.loop-k-test.true) in
+    let items = asked_items c.args.form asked in
+    let m : Marked = item_for c.args.form asked k in
+    let within : k < length items = omega (arith, c.loop-k-test.true, length-asked_items c.args.form asked) in
+    let next : m ≡ get_or items k m = sym (asked_at c.args.form asked k _ m c.loop-k-test.true) in
     let same : item_of (record { answer = _; bound = c.bound_in-bound.result; end = c.len.result }) ≡ m =
-    is_in_form form (get_or asked k q).answer _ (get_or asked k q).bound _ c.bound_in-bound.result (search rules)
-    (search rules) c.bound_in-bound.ensures in
+    is_in_form c.args.form (question_at asked k).answer _ (question_at asked k).bound _ c.bound_in-bound.result
+    (search rules) (search rules) c.bound_in-bound.ensures in
     let text = text_added items k m within next c.loop-k.text c.add_item.new.text c.loop-k.invariant.text
     (c.add_item.ensures ∙ ap (λ (x : Marked). c.loop-k.text ++ ((if k == 0 then [] else codes ",") ++ item_text x))
     same) in

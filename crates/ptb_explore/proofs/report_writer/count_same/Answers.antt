@@ -2,33 +2,35 @@
 use Rattle.std.proofs.Common.{arith, rules, ◌≡◌, ◌∙◌, ap, sym, ◌++◌, ◌∷◌, [], get_or, take, pos, refl}
 use Rattle.std.proofs.lemmas.List.{get_or-map, take_more}
 use Rattle.ptb_answers.specs.AnswerText.{in_form}
-use Rattle.ptb_answers.specs.declared.asked.Asked.{Asked}
 use Rattle.ptb_answers.specs.declared.form.Marked.{Marked}
 use Rattle.ptb_explore.specs.Begun.{item_of, items_of}
 use Rattle.ptb_explore.specs.ReportText.{asked_items}
 use Rattle.ptb_explore.proofs.HeaderPrefixes.{is_in_form, length-items_of}
-use Rattle.ptb_explore.proofs.AskedLists.{asked_at, length-asked_items}
+use Rattle.ptb_explore.proofs.AskedLists.{asked_at, item_for, question_at, length-asked_items}
 use Rattle.ptb_explore.proofs.report_writer.count_same.Goals as goal
 
 pub loop-k-preserved : goal.loop-k-preserved
 loop-k-preserved c =
     let k = c.loop-k.k in
-    let form = c.args.form in
-    let asked = c.args.asked.now in
-    let items = asked_items form asked in
-    let q : Asked = get_or asked k (record { answer = pos 0; bound = pos 0 }) in
-    let m : Marked = in_form form (get_or asked k q).answer (get_or asked k q).bound in
+    let items = asked_items c.args.form c.args.asked.now in
+    let m : Marked = item_for c.args.form c.args.asked.now k in
     let is : get_or (items_of c.args.items.now) k m ≡ m =
     get_or-map item_of c.args.items.now k _ m c.if-k-items.false ∙ c.if-not-is_item.ensures refl
-    ∙ is_in_form form (get_or asked k q).answer _ (get_or asked k q).bound _ c.bound_in.result (search rules)
-    (search rules) c.bound_in.ensures in
+    ∙ is_in_form c.args.form (question_at c.args.asked.now k).answer _ (question_at c.args.asked.now k).bound _
+    c.bound_in.result
+    (search rules) (search rules) c.bound_in.ensures in
     let of : get_or (items_of c.args.items.now) k m ≡ get_or items k m =
-    is ∙ sym (asked_at form asked k q m c.loop-k-test.true) in
+    is ∙ sym (asked_at c.args.form c.args.asked.now k _ m c.loop-k-test.true) in
     record {
       within = search rules;
       same = take_more (items_of c.args.items.now) k m
           (omega (arith, c.if-k-items.false, length-items_of c.args.items.now))
           ∙ ap (λ z. z ++ get_or (items_of c.args.items.now) k m ∷ []) c.loop-k.invariant.same
           ∙ ap (λ z. take k items ++ z ∷ []) of
-          ∙ sym (take_more items k m (omega (arith, c.loop-k-test.true, length-asked_items form asked)));
+          ∙ sym (take_more items k m (omega (
+            arith,
+            c.loop-k-test.true,
+            length-asked_items c.args.form
+                c.args.asked.now,
+          )));
     }

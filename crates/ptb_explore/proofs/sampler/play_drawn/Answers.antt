@@ -1,13 +1,15 @@
 -- This file answers that a run is played step by step with the answers that are drawn, and how it ends.
-use Rattle.std.proofs.Common.{◌≡◌, ◌∙◌, [], refl, ap, true, false, Ok, Err, Some, None}
+use Rattle.std.proofs.Common.{◌≡◌, ◌∙◌, [], drop, refl, ap, true, false, Ok, Err, Some, None}
 use Rattle.ptb_answers.specs.Seeds.{RefusedForMemory, drawn_from, seeded_choices}
 use Rattle.ptb_machine.specs.State.{first_state}
 use Rattle.ptb_devices.specs.Sources.{LineList}
 use Rattle.ptb_machine.specs.Play.{play}
+use Rattle.ptb_explore.specs.PlannedPlays.{IsRunPrefix}
 use Rattle.ptb_explore.proofs.RunPrefix.{advanced, step_goes, run_prefix_at_first, none_follow}
 use Rattle.ptb_explore.proofs.RunPrefix.{never_unread, never_unwritten}
 use Rattle.ptb_explore.proofs.DrawnRuns.{drawn_ends, plays_drawn}
 use Rattle.ptb_explore.proofs.sampler.play_drawn.Goals as goal
+use Rattle.ptb_explore.proofs.sampler.play_drawn.Goals.{After-advance}
 
 pub steps-init : goal.steps-init
 steps-init c =
@@ -28,6 +30,16 @@ steps-init c =
           (seeded_choices chooser) c.args.machine.now taken kept (c.requires.first input c.args.rules.choose));
     }
 
+-- the machine stands where the play is, after it advanced
+advances : (c : After-advance)
+    → IsRunPrefix c.advance.new.self c.args.lines.now c.args.rules (seeded_choices c.steps.chooser) c.steps.screen
+    (drop c.steps.source.taken c.steps.source.lines) c.advance.new.machine
+advances c =
+    let turns = c.advance.ensures.turns in
+    advanced c.run_laws.ensures c.steps.player c.args.lines.now c.args.rules c.advance.new.self turns.0 c.steps.machine
+    c.advance.new.machine (seeded_choices c.steps.chooser) c.steps.screen _ c.advance.ensures.program
+    c.steps.invariant.run_prefix turns.1.1
+
 pub step-requires : goal.step-requires
 step-requires c = record { fits = rw c.advance.ensures.program c.advance.ensures.fits }
 
@@ -35,12 +47,9 @@ pub steps-preserved : goal.steps-preserved
 steps-preserved c =
     let l = c.steps in
     let i = l.invariant in
-    let is : c.step.result ≡ Ok None = c.in-Ok-None.is ∙ ap Ok c.in-Ok-None.field-0-is in
     let turn = c.step.ensures.step.turn in
-    let turns = c.advance.ensures.turns in
-    let u = advanced c.run_laws.ensures l.player c.args.lines.now c.args.rules c.advance.new.self turns.0 l.machine
-    c.advance.new.machine (seeded_choices l.chooser) l.screen _ c.advance.ensures.program l.invariant.run_prefix
-    turns.1.1 in
+    let is : c.step.result ≡ Ok None = c.in-Ok-None.is ∙ ap Ok c.in-Ok-None.field-0-is in
+    let u = advances (goal.at.steps-preserved c).After-advance in
     let x = step_goes c.run_laws.ensures c.advance.new.self c.args.lines.now c.args.rules _ _
     (seeded_choices l.chooser) (seeded_choices c.step.new.chooser) _ _ turn.given _ _ _ _ _ _ is u turn.gives.first
     (none_follow c.step.new.source) turn.steps in
@@ -60,10 +69,7 @@ returns-in-Ok-Some-clause-drawn c =
     let input = c.args.lines.now in
     let turn = c.step.ensures.step.turn in
     let is = c.in-Ok-Some.is ∙ ap Ok (c.in-Ok-Some.field-0-is ∙ ap Some c.in-Ok-Some.ending-is) in
-    let turns = c.advance.ensures.turns in
-    let u = advanced c.run_laws.ensures l.player input c.args.rules c.advance.new.self turns.0 l.machine
-    c.advance.new.machine (seeded_choices l.chooser) l.screen _ c.advance.ensures.program l.invariant.run_prefix
-    turns.1.1 in
+    let u = advances (goal.at.returns-in-Ok-Some-clause-drawn c).After-advance in
     let x = drawn_ends c.run_laws.ensures c.advance.new.self input c.args.rules _ _ (seeded_choices l.chooser)
     (seeded_choices c.step.new.chooser) _ _ turn.given _ _ _ _ u c.in-Ok-Some.ending _ is turn.gives.first
     (none_follow c.step.new.source) turn.steps in
@@ -73,10 +79,7 @@ returns-in-Ok-Some-clause-drawn c =
 pub unreachable-requires : goal.unreachable-requires
 unreachable-requires c =
     let turn = c.step.ensures.step.turn in
-    let turns = c.advance.ensures.turns in
-    let u = advanced c.run_laws.ensures c.steps.player c.args.lines.now c.args.rules c.advance.new.self
-    turns.0 c.steps.machine c.advance.new.machine (seeded_choices c.steps.chooser) c.steps.screen _
-    c.advance.ensures.program c.steps.invariant.run_prefix turns.1.1 in
+    let u = advances (goal.at.unreachable-requires c).After-advance in
     never_unread c.run_laws.ensures c.advance.new.self c.args.lines.now c.args.rules RefusedForMemory
     _ _ _ _ _ _ turn.given _ _ _ _ _ u turn.gives.first (none_follow c.step.new.source) turn.steps
     (c.in-Err-Read.is ∙ ap Err c.in-Err-Read.field-0-is)
@@ -84,10 +87,7 @@ unreachable-requires c =
 pub unreachable-requires-in-Err-Write : goal.unreachable-requires-in-Err-Write
 unreachable-requires-in-Err-Write c =
     let turn = c.step.ensures.step.turn in
-    let turns = c.advance.ensures.turns in
-    let u = advanced c.run_laws.ensures c.steps.player c.args.lines.now c.args.rules c.advance.new.self
-    turns.0 c.steps.machine c.advance.new.machine (seeded_choices c.steps.chooser) c.steps.screen _
-    c.advance.ensures.program c.steps.invariant.run_prefix turns.1.1 in
+    let u = advances (goal.at.unreachable-requires-in-Err-Write c).After-advance in
     never_unwritten c.run_laws.ensures c.advance.new.self c.args.lines.now c.args.rules RefusedForMemory
     _ _ _ _ _ _ turn.given _ _ _ _ _ u turn.gives.first (none_follow c.step.new.source) turn.steps
     (c.in-Err-Write.is ∙ ap Err c.in-Err-Write.field-0-is)

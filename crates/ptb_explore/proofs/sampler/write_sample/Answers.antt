@@ -8,21 +8,15 @@ use Rattle.ptb_explore.proofs.sampler.write_sample.Goals as goal
 
 pub returns-then-runs-eq0-clause-laws : goal.returns-then-runs-eq0-clause-laws
 returns-then-runs-eq0-clause-laws g c =
-    sample_laws (play c.args.program.now c.args.lines.now c.args.rules)
-    (most_answers c.args.program.now c.args.lines.now c.args.rules.limit)
-    (c.run_laws.ensures.reads c.args.program.now c.args.lines.now c.args.rules)
+    sample_laws _ _ (c.run_laws.ensures.reads c.args.program.now c.args.lines.now c.args.rules)
 
 pub returns-in-Ok-clause-laws : goal.returns-in-Ok-clause-laws
 returns-in-Ok-clause-laws g c =
-    sample_laws (play c.args.program.now c.args.lines.now c.args.rules)
-    (most_answers c.args.program.now c.args.lines.now c.args.rules.limit)
-    (c.run_laws.ensures.reads c.args.program.now c.args.lines.now c.args.rules)
+    sample_laws _ _ (c.run_laws.ensures.reads c.args.program.now c.args.lines.now c.args.rules)
 
 pub returns-in-Err-clause-laws : goal.returns-in-Err-clause-laws
 returns-in-Err-clause-laws g c =
-    sample_laws (play c.args.program.now c.args.lines.now c.args.rules)
-    (most_answers c.args.program.now c.args.lines.now c.args.rules.limit)
-    (c.run_laws.ensures.reads c.args.program.now c.args.lines.now c.args.rules)
+    sample_laws _ _ (c.run_laws.ensures.reads c.args.program.now c.args.lines.now c.args.rules)
 
 pub returns-in-Err-clause-writes : goal.returns-in-Err-clause-writes
 returns-in-Err-clause-writes g c =

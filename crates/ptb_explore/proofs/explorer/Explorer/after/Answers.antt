@@ -1,16 +1,18 @@
 -- This file answers that answers without bounds are a run as their list is, and that the runs of the program have
 -- their laws.
-use Rattle.std.proofs.Common.{◌∙◌, ap}
+use Rattle.std.proofs.Common.{◌≡◌, ◌∙◌, ap}
 use Rattle.ptb_answers.specs.AnswerText.{answers_of}
 use Rattle.ptb_machine.specs.Play.{play}
 use Rattle.ptb_explore.proofs.RunPrefix.{program_laws}
 use Rattle.ptb_explore.proofs.Stated.{unmarked_answers, unmarked_run, unmarked_run_ok}
 use Rattle.ptb_explore.proofs.explorer.Explorer.after.Goals as goal
+use Rattle.ptb_explore.proofs.explorer.Explorer.after.Goals.{After-deref}
+
+same : (c : After-deref) → answers_of c.deref.result.now ≡ c.args.answers.now
+same c = ap answers_of (c.deref.ensures.value ∙ c.in_ok-list.ensures) ∙ unmarked_answers c.args.answers.now
 
 pub returns-clause-after : goal.returns-clause-after
-returns-clause-after c =
-    let same = ap answers_of (c.deref.ensures.value ∙ c.in_ok-list.ensures) ∙ unmarked_answers c.args.answers.now in
-    rw same at c.after_marked.ensures.after
+returns-clause-after c = rw (same (goal.at.returns-clause-after c).After-deref) at c.after_marked.ensures.after
 
 pub returns-clause-run : goal.returns-clause-run
 returns-clause-run c =
@@ -18,14 +20,10 @@ returns-clause-run c =
     (c.deref.ensures.value ∙ c.in_ok-list.ensures) c.after_marked.result c.after_marked.ensures.run
 
 pub returns-clause-kept : goal.returns-clause-kept
-returns-clause-kept c =
-    let same = ap answers_of (c.deref.ensures.value ∙ c.in_ok-list.ensures) ∙ unmarked_answers c.args.answers.now in
-    rw same at c.after_marked.ensures.kept
+returns-clause-kept c = rw (same (goal.at.returns-clause-kept c).After-deref) at c.after_marked.ensures.kept
 
 pub returns-clause-played : goal.returns-clause-played
-returns-clause-played c =
-    let same = ap answers_of (c.deref.ensures.value ∙ c.in_ok-list.ensures) ∙ unmarked_answers c.args.answers.now in
-    rw same at c.after_marked.ensures.played
+returns-clause-played c = rw (same (goal.at.returns-clause-played c).After-deref) at c.after_marked.ensures.played
 
 pub returns-clause-not_a_run : goal.returns-clause-not_a_run
 returns-clause-not_a_run c = λ m fault run.

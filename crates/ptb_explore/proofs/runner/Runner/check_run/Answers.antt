@@ -14,15 +14,13 @@ use Rattle.ptb_explore.specs.RunTree.{IsRun}
 use Rattle.ptb_explore.proofs.Exits.{ok_no_err, same_reason}
 use Rattle.ptb_explore.proofs.Keep.{kept_same}
 use Rattle.ptb_explore.proofs.Mismatches.{answers_length, if_none_at, if_some_at}
+use Rattle.ptb_explore.proofs.Recorded.{fresh_from}
 use Rattle.ptb_explore.proofs.Runners.{changed}
 use Rattle.ptb_explore.proofs.Trial.{all_bounds, all_given, result_is, whole_plan}
 use Rattle.ptb_explore.proofs.runner.Runner.check_run.Goals as goal
 
-pub play_from_start-requires : goal.play_from_start-requires
-play_from_start-requires c = record {
-  fresh = record { none_given = c.in_ok-replay.ensures.given; all_planned = c.in_ok-replay.ensures.planned };
-  none = c.clear.ensures;
-}
+pub play_from_start-requires-clause-fresh : goal.play_from_start-requires-clause-fresh
+play_from_start-requires-clause-fresh c = fresh_from _ c.in_ok-replay.ensures.given c.in_ok-replay.ensures.planned
 
 pub run_mismatch-requires : goal.run_mismatch-requires
 run_mismatch-requires c = c.in_ok-ending.ensures.plan ∙ c.in_ok-replay.ensures.answers

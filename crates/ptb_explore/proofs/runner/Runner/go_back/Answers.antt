@@ -8,13 +8,14 @@ use Rattle.ptb_answers.specs.Asked.{answers_in, bounds_in}
 use Rattle.ptb_explore.specs.Recorders.{given_bounds, recorded}
 use Rattle.ptb_explore.specs.Copies.{GoesBackTo, machine_of, steps_or_none}
 use Rattle.ptb_explore.proofs.ContinuedCopies.{on_copies, on_len, on_prefix}
-use Rattle.ptb_explore.proofs.Keep.{goes_on, kept_none, stands_machine}
+use Rattle.ptb_explore.proofs.Keep.{GoesOn, goes_on, kept_none, stands_machine}
 use Rattle.ptb_explore.proofs.Exits.{on_ok_always}
 use Rattle.ptb_explore.proofs.RestoredCopies.{same_plan, none_taken, no_copies, begun_prefix, begun_steps, copy_left}
 use Rattle.ptb_explore.proofs.Recorded.{skipped_bounds}
 use Rattle.ptb_explore.proofs.Trial.{fresh_plan}
 use Rattle.ptb_explore.proofs.AskedLists.{length-bounds_in}
 use Rattle.ptb_explore.proofs.runner.Runner.go_back.Goals as goal
+use Rattle.ptb_explore.proofs.runner.Runner.go_back.Goals.{In-Some}
 
 pub returns-in_err-go_back : goal.returns-in_err-go_back
 returns-in_err-go_back c = record {
@@ -48,40 +49,34 @@ returns-in-None c =
       steps = begun_steps c.begin.result (λ b. b.value) c.args.self.now.player _ left.0 c.begin.ensures.first;
     }
 
-pub cut-requires-in-Some : goal.cut-requires-in-Some
-cut-requires-in-Some c =
-    let on = goes_on c.args.self.now.player c.args.source.now.lines c.args.self.now.rules c.args.common
+-- the run continues from the newest copy that is left
+from_copy : (c : In-Some) → GoesOn c.args.self.now.player c.args.source.now.lines c.args.self.now.rules
+    c.args.common
+    (answers_in c.args.self.now.report.asked.items) c.args.screen.now c.go_back.new.self.kept.items c.in-Some.copy
+from_copy c = goes_on c.args.self.now.player c.args.source.now.lines c.args.self.now.rules c.args.common
     (answers_in c.args.self.now.report.asked.items) c.args.screen.now c.args.self.now.copies.kept.items
     c.go_back.new.self.kept.items c.in-Some.copy c.requires.copies
     (subst (GoesBackTo c.args.common c.args.self.now.copies.kept.items c.go_back.new.self.kept.items) c.in-Some.is
-    c.in_ok-go_back.ensures) in
+    c.in_ok-go_back.ensures)
+
+pub cut-requires-in-Some : goal.cut-requires-in-Some
+cut-requires-in-Some c =
+    let on = from_copy (goal.at.cut-requires-in-Some c).In-Some in
     on.shown
 
 pub go-requires : goal.go-requires
 go-requires c =
-    let on = goes_on c.args.self.now.player c.args.source.now.lines c.args.self.now.rules c.args.common
-    (answers_in c.args.self.now.report.asked.items) c.args.screen.now c.args.self.now.copies.kept.items
-    c.go_back.new.self.kept.items c.in-Some.copy c.requires.copies
-    (subst (GoesBackTo c.args.common c.args.self.now.copies.kept.items c.go_back.new.self.kept.items) c.in-Some.is
-    c.in_ok-go_back.ensures) in
+    let on = from_copy (goal.at.go-requires c).In-Some in
     on.stands.within
 
 pub returns-in-Some-machine-clause-within : goal.returns-in-Some-machine-clause-within
 returns-in-Some-machine-clause-within c =
-    let on = goes_on c.args.self.now.player c.args.source.now.lines c.args.self.now.rules c.args.common
-    (answers_in c.args.self.now.report.asked.items) c.args.screen.now c.args.self.now.copies.kept.items
-    c.go_back.new.self.kept.items c.in-Some.copy c.requires.copies
-    (subst (GoesBackTo c.args.common c.args.self.now.copies.kept.items c.go_back.new.self.kept.items) c.in-Some.is
-    c.in_ok-go_back.ensures) in
+    let on = from_copy (goal.at.returns-in-Some-machine-clause-within c).In-Some in
     rw c.go.ensures on.stands.within
 
 pub returns-in-Some-machine-clause-unspent : goal.returns-in-Some-machine-clause-unspent
 returns-in-Some-machine-clause-unspent c =
-    let on = goes_on c.args.self.now.player c.args.source.now.lines c.args.self.now.rules c.args.common
-    (answers_in c.args.self.now.report.asked.items) c.args.screen.now c.args.self.now.copies.kept.items
-    c.go_back.new.self.kept.items c.in-Some.copy c.requires.copies
-    (subst (GoesBackTo c.args.common c.args.self.now.copies.kept.items c.go_back.new.self.kept.items) c.in-Some.is
-    c.in_ok-go_back.ensures) in
+    let on = from_copy (goal.at.returns-in-Some-machine-clause-unspent c).In-Some in
     let machine_is : machine_of c.in-Some.copy ≡ Some c.in-Some-machine.machine.value =
     ap (option_map (λ b. b.value)) c.in-Some-machine.is in
     rw c.in-Some-machine.is (ap (λ (m : Configuration). m.spent)
@@ -90,11 +85,7 @@ returns-in-Some-machine-clause-unspent c =
 
 pub returns-in-Some-machine-clause-run_prefix : goal.returns-in-Some-machine-clause-run_prefix
 returns-in-Some-machine-clause-run_prefix c =
-    let on = goes_on c.args.self.now.player c.args.source.now.lines c.args.self.now.rules c.args.common
-    (answers_in c.args.self.now.report.asked.items) c.args.screen.now c.args.self.now.copies.kept.items
-    c.go_back.new.self.kept.items c.in-Some.copy c.requires.copies
-    (subst (GoesBackTo c.args.common c.args.self.now.copies.kept.items c.go_back.new.self.kept.items) c.in-Some.is
-    c.in_ok-go_back.ensures) in
+    let on = from_copy (goal.at.returns-in-Some-machine-clause-run_prefix c).In-Some in
     let machine_is : machine_of c.in-Some.copy ≡ Some c.in-Some-machine.machine.value =
     ap (option_map (λ b. b.value)) c.in-Some-machine.is in
     let given = skipped_bounds c.args.self.now.trial c.skip.new.self c.in-Some.copy.taken c.skip.ensures.asked
@@ -108,11 +99,7 @@ returns-in-Some-machine-clause-run_prefix c =
 
 pub returns-in-Some-machine-clause-copies : goal.returns-in-Some-machine-clause-copies
 returns-in-Some-machine-clause-copies c =
-    let on = goes_on c.args.self.now.player c.args.source.now.lines c.args.self.now.rules c.args.common
-    (answers_in c.args.self.now.report.asked.items) c.args.screen.now c.args.self.now.copies.kept.items
-    c.go_back.new.self.kept.items c.in-Some.copy c.requires.copies
-    (subst (GoesBackTo c.args.common c.args.self.now.copies.kept.items c.go_back.new.self.kept.items) c.in-Some.is
-    c.in_ok-go_back.ensures) in
+    let on = from_copy (goal.at.returns-in-Some-machine-clause-copies c).In-Some in
     let given = skipped_bounds c.args.self.now.trial c.skip.new.self c.in-Some.copy.taken c.skip.ensures.asked
     c.skip.ensures.given in
     on_copies c.args.self.now.player c.args.source.now.lines c.args.self.now.rules c.args.common
@@ -123,22 +110,14 @@ returns-in-Some-machine-clause-copies c =
 
 pub returns-in-Some-machine-clause-steps : goal.returns-in-Some-machine-clause-steps
 returns-in-Some-machine-clause-steps c =
-    let on = goes_on c.args.self.now.player c.args.source.now.lines c.args.self.now.rules c.args.common
-    (answers_in c.args.self.now.report.asked.items) c.args.screen.now c.args.self.now.copies.kept.items
-    c.go_back.new.self.kept.items c.in-Some.copy c.requires.copies
-    (subst (GoesBackTo c.args.common c.args.self.now.copies.kept.items c.go_back.new.self.kept.items) c.in-Some.is
-    c.in_ok-go_back.ensures) in
+    let on = from_copy (goal.at.returns-in-Some-machine-clause-steps c).In-Some in
     let machine_is : machine_of c.in-Some.copy ≡ Some c.in-Some-machine.machine.value =
     ap (option_map (λ b. b.value)) c.in-Some-machine.is in
     rw c.in-Some-machine.is (sym (on.steps ∙ ap steps_or_none machine_is))
 
 pub unreachable-requires : goal.unreachable-requires
 unreachable-requires c =
-    let on = goes_on c.args.self.now.player c.args.source.now.lines c.args.self.now.rules c.args.common
-    (answers_in c.args.self.now.report.asked.items) c.args.screen.now c.args.self.now.copies.kept.items
-    c.go_back.new.self.kept.items c.in-Some.copy c.requires.copies
-    (subst (GoesBackTo c.args.common c.args.self.now.copies.kept.items c.go_back.new.self.kept.items) c.in-Some.is
-    c.in_ok-go_back.ensures) in
+    let on = from_copy (goal.at.unreachable-requires c).In-Some in
     let none : machine_of c.in-Some.copy ≡ None = ap (option_map (λ b. b.value)) c.in-None-machine.is in
     let some : machine_of c.in-Some.copy ≡ Some on.stands.machine = on.stands.machine_is in
     absurd cc
@@ -146,11 +125,7 @@ unreachable-requires c =
 pub skip-requires-clause-within : goal.skip-requires-clause-within
 skip-requires-clause-within c =
     let trial = c.args.self.now.trial in
-    let on = goes_on c.args.self.now.player c.args.source.now.lines c.args.self.now.rules c.args.common
-    (answers_in c.args.self.now.report.asked.items) c.args.screen.now c.args.self.now.copies.kept.items
-    c.go_back.new.self.kept.items c.in-Some.copy c.requires.copies
-    (subst (GoesBackTo c.args.common c.args.self.now.copies.kept.items c.go_back.new.self.kept.items) c.in-Some.is
-    c.in_ok-go_back.ensures) in
+    let on = from_copy (goal.at.skip-requires-clause-within c).In-Some in
     let few = on_len c.args.self.now.player c.args.source.now.lines c.args.self.now.rules c.args.common
     (recorded trial) (answers_in c.args.self.now.report.asked.items) (bounds_in trial.asked.items) c.args.screen.now
     c.go_back.new.self.kept.items c.in-Some.copy c.requires.agrees on in

@@ -6,6 +6,7 @@ use Rattle.ptb_machine.specs.Play.{play}
 use Rattle.ptb_answers.specs.Outcome.{Answers}
 use Rattle.ptb_explore.proofs.Recorded.{given_len, recorded_len}
 use Rattle.ptb_explore.specs.Copies.{AreTakenBy, StandsAt, taken_choices}
+use Rattle.ptb_explore.specs.PlannedPlays.{IsRunPrefix, PlayEnds}
 use Rattle.ptb_explore.specs.Recorders.{RefusedByPlan, choices_of, given_bounds, recorded}
 use Rattle.ptb_explore.specs.declared.recorder.Recorder.{Recorder}
 use Rattle.ptb_explore.proofs.Limits.{taken_by}
@@ -14,11 +15,36 @@ use Rattle.ptb_explore.proofs.RunPrefix.{advanced, step_goes, step_ends, step_ex
 use Rattle.ptb_explore.proofs.RunPrefix.{taken_within, none_follow, never_unread, never_unwritten}
 use Rattle.ptb_explore.proofs.Runners.{stepped}
 use Rattle.ptb_explore.proofs.runner.Runner.play_on.Goals as goal
+use Rattle.ptb_explore.proofs.runner.Runner.play_on.Goals.{After-advance, In-Ok-Some}
 
 -- as many answers were taken as there are bounds
 taken_length : (r : Recorder) → length (choices_of r).taken ≡ length (given_bounds r)
 taken_length r = length-take-le (length (given_bounds r)) (recorded r)
     (omega (arith, r.bounded, (recorded_len r), (given_len r)))
+
+-- the machine stands where the play is, after it advanced
+advances : (c : After-advance)
+    → IsRunPrefix c.advance.new.self c.args.source.now.lines c.args.self.now.rules (choices_of c.loop-ending.self.trial)
+    c.loop-ending.screen (drop c.loop-ending.source.taken c.loop-ending.source.lines) c.advance.new.machine
+advances c =
+    let turns = c.advance.ensures.turns in
+    advanced c.run_laws.ensures c.loop-ending.self.player c.args.source.now.lines c.args.self.now.rules
+    c.advance.new.self turns.0 c.loop-ending.machine c.advance.new.machine (choices_of c.loop-ending.self.trial)
+    c.loop-ending.screen _ c.advance.ensures.program c.loop-ending.invariant.run_prefix turns.1.1
+
+-- its plan stays, and it ends as the step says
+ended : (c : In-Ok-Some)
+    → IsRunPrefix c.advance.new.self c.args.source.now.lines c.args.self.now.rules (choices_of c.loop-ending.self.trial)
+    c.loop-ending.screen (drop c.loop-ending.source.taken c.loop-ending.source.lines) c.advance.new.machine
+    → ((choices_of c.step.new.chooser).plan ≡ (choices_of c.loop-ending.self.trial).plan)
+    × PlayEnds (play c.advance.new.self c.args.source.now.lines c.args.self.now.rules) (choices_of c.step.new.chooser)
+    c.step.new.chooser.refused_bound c.step.new.machine.steps c.step.new.screen c.in-Ok-Some.ending
+ended c u =
+    let turn = c.step.ensures.step.turn in
+    step_ends c.run_laws.ensures c.advance.new.self c.args.source.now.lines c.args.self.now.rules
+    _ _ _ _ c.step.new.chooser.refused_bound _ _ turn.given _ _ _ _ c.in-Ok-Some.ending _
+    (c.in-Ok-Some.is ∙ ap Ok (c.in-Ok-Some.field-0-is ∙ ap Some c.in-Ok-Some.ending-is)) u turn.gives.first
+    (none_follow c.step.new.source) turn.steps
 
 pub step-requires : goal.step-requires
 step-requires c = record { fits = rw c.advance.ensures.program c.advance.ensures.fits }
@@ -32,10 +58,7 @@ loop-ending-preserved c =
     let turn = c.step.ensures.step.turn in
     let old = choices_of l.self.trial in
     let new = choices_of c.step.new.chooser in
-    let turns = c.advance.ensures.turns in
-    let u = advanced c.run_laws.ensures l.self.player input c.args.self.now.rules c.advance.new.self turns.0 l.machine
-    c.advance.new.machine (choices_of l.self.trial) l.screen _ c.advance.ensures.program l.invariant.run_prefix
-    turns.1.1 in
+    let u = advances (goal.at.loop-ending-preserved c).After-advance in
     let x = step_goes c.run_laws.ensures c.advance.new.self input c.args.self.now.rules _ _ _ _ _ _ turn.given _ _ _ _ _
     _ is u turn.gives.first (none_follow c.step.new.source) turn.steps in
     let more = step_extends c.advance.new.self input c.args.self.now.rules _ _ old new _ _ turn.given _ _ _ _ _ u None _
@@ -95,31 +118,14 @@ returns-in-Err-Memory-clause-same c =
 
 pub returns-in-Ok-Some-clause-plan : goal.returns-in-Ok-Some-clause-plan
 returns-in-Ok-Some-clause-plan c =
-    let i = c.loop-ending.invariant in
-    let turn = c.step.ensures.step.turn in
-    let turns = c.advance.ensures.turns in
-    let u = advanced c.run_laws.ensures c.loop-ending.self.player c.args.source.now.lines c.args.self.now.rules
-    c.advance.new.self turns.0 c.loop-ending.machine c.advance.new.machine (choices_of c.loop-ending.self.trial)
-    c.loop-ending.screen _ c.advance.ensures.program c.loop-ending.invariant.run_prefix turns.1.1 in
-    let x = step_ends c.run_laws.ensures c.advance.new.self c.args.source.now.lines c.args.self.now.rules
-    _ _ _ _ c.step.new.chooser.refused_bound _ _ turn.given _ _ _ _ c.in-Ok-Some.ending _
-    (c.in-Ok-Some.is ∙ ap Ok (c.in-Ok-Some.field-0-is ∙ ap Some c.in-Ok-Some.ending-is)) u turn.gives.first
-    (none_follow c.step.new.source) turn.steps in
-    x.0 ∙ i.plan
+    let before = goal.at.returns-in-Ok-Some-clause-plan c in
+    (ended before.In-Ok-Some (advances before.After-advance)).0 ∙ c.loop-ending.invariant.plan
 
 pub returns-in-Ok-Some-clause-ends : goal.returns-in-Ok-Some-clause-ends
 returns-in-Ok-Some-clause-ends c =
-    let i = c.loop-ending.invariant in
-    let turn = c.step.ensures.step.turn in
-    let turns = c.advance.ensures.turns in
-    let u = advanced c.run_laws.ensures c.loop-ending.self.player c.args.source.now.lines c.args.self.now.rules
-    c.advance.new.self turns.0 c.loop-ending.machine c.advance.new.machine (choices_of c.loop-ending.self.trial)
-    c.loop-ending.screen _ c.advance.ensures.program c.loop-ending.invariant.run_prefix turns.1.1 in
-    let x = step_ends c.run_laws.ensures c.advance.new.self c.args.source.now.lines c.args.self.now.rules
-    _ _ _ _ c.step.new.chooser.refused_bound _ _ turn.given _ _ _ _ c.in-Ok-Some.ending _
-    (c.in-Ok-Some.is ∙ ap Ok (c.in-Ok-Some.field-0-is ∙ ap Some c.in-Ok-Some.ending-is)) u turn.gives.first
-    (none_follow c.step.new.source) turn.steps in
-    rw (← (c.advance.ensures.program ∙ i.program)) x.1
+    let before = goal.at.returns-in-Ok-Some-clause-ends c in
+    rw (← (c.advance.ensures.program ∙ c.loop-ending.invariant.program))
+    (ended before.In-Ok-Some (advances before.After-advance)).1
 
 pub returns-in-Ok-Some-clause-copies : goal.returns-in-Ok-Some-clause-copies
 returns-in-Ok-Some-clause-copies c =
@@ -129,10 +135,7 @@ returns-in-Ok-Some-clause-copies c =
     let turn = c.step.ensures.step.turn in
     let old = choices_of l.self.trial in
     let new = choices_of c.step.new.chooser in
-    let turns = c.advance.ensures.turns in
-    let u = advanced c.run_laws.ensures l.self.player input c.args.self.now.rules c.advance.new.self turns.0 l.machine
-    c.advance.new.machine (choices_of l.self.trial) l.screen _ c.advance.ensures.program l.invariant.run_prefix
-    turns.1.1 in
+    let u = advances (goal.at.returns-in-Ok-Some-clause-copies c).After-advance in
     let more = step_extends c.advance.new.self input c.args.self.now.rules _ _ old new _ _ turn.given _ _ _ _ _ u
     (Some c.in-Ok-Some.ending) _ (c.in-Ok-Some.is ∙ ap Ok (c.in-Ok-Some.field-0-is
     ∙ ap Some c.in-Ok-Some.ending-is)) turn.gives.first (none_follow c.step.new.source) turn.steps in
@@ -144,10 +147,7 @@ returns-in-Ok-Some-clause-copies c =
 pub unreachable-requires : goal.unreachable-requires
 unreachable-requires c =
     let turn = c.step.ensures.step.turn in
-    let turns = c.advance.ensures.turns in
-    let u = advanced c.run_laws.ensures c.loop-ending.self.player c.args.source.now.lines c.args.self.now.rules
-    c.advance.new.self turns.0 c.loop-ending.machine c.advance.new.machine (choices_of c.loop-ending.self.trial)
-    c.loop-ending.screen _ c.advance.ensures.program c.loop-ending.invariant.run_prefix turns.1.1 in
+    let u = advances (goal.at.unreachable-requires c).After-advance in
     never_unread c.run_laws.ensures c.advance.new.self c.args.source.now.lines c.args.self.now.rules (RefusedByPlan
     (choices_of c.step.new.chooser) c.step.new.chooser.refused_bound) _ _ _ _ _ _ turn.given _ _ _ _ _ u
     turn.gives.first (none_follow c.step.new.source) turn.steps (c.in-Err-Read.is ∙ ap Err c.in-Err-Read.field-0-is)
@@ -155,10 +155,7 @@ unreachable-requires c =
 pub unreachable-requires-in-Err-Write : goal.unreachable-requires-in-Err-Write
 unreachable-requires-in-Err-Write c =
     let turn = c.step.ensures.step.turn in
-    let turns = c.advance.ensures.turns in
-    let u = advanced c.run_laws.ensures c.loop-ending.self.player c.args.source.now.lines c.args.self.now.rules
-    c.advance.new.self turns.0 c.loop-ending.machine c.advance.new.machine (choices_of c.loop-ending.self.trial)
-    c.loop-ending.screen _ c.advance.ensures.program c.loop-ending.invariant.run_prefix turns.1.1 in
+    let u = advances (goal.at.unreachable-requires-in-Err-Write c).After-advance in
     never_unwritten c.run_laws.ensures c.advance.new.self c.args.source.now.lines c.args.self.now.rules
     (RefusedByPlan (choices_of c.step.new.chooser) c.step.new.chooser.refused_bound) _ _ _
     _ _ _ turn.given _ _ _ _ _ u turn.gives.first (none_follow c.step.new.source) turn.steps

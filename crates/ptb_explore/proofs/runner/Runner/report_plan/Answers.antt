@@ -5,37 +5,50 @@ use Rattle.std.proofs.lemmas.Result.{IfOk-from_err}
 use Rattle.ptb_answers.specs.Asked.{answers_in}
 use Rattle.ptb_machine.specs.Play.{play}
 use Rattle.ptb_machine.specs.Questions.{most_answers}
-use Rattle.ptb_explore.specs.Recorders.{choices_of, recorded}
+use Rattle.ptb_explore.specs.Plans.{PlanEndsWith}
+use Rattle.ptb_explore.specs.Recorders.{choices_of, given_bounds, recorded}
 use Rattle.ptb_explore.proofs.WrittenTexts.{on_err_always}
 use Rattle.ptb_explore.proofs.Keep.{kept_same}
 use Rattle.ptb_explore.proofs.Runners.{changed}
 use Rattle.ptb_explore.proofs.Trial.{all_bounds, all_given, open_ends}
 use Rattle.ptb_explore.proofs.runner.Runner.report_plan.Goals as goal
 
-pub returns-clause-ends : goal.returns-clause-ends
-returns-clause-ends c =
+-- the plan was played to the end of a run
+ended : (c : goal.After-hand_over)
+    → PlanEndsWith (play c.args.self.now.player c.args.self.now.lines.now c.args.self.now.rules)
+    (recorded c.args.self.now.trial) (recorded c.play_plan.new.self.trial) (given_bounds c.play_plan.new.self.trial)
+    (record {
+      ending = c.play_plan.new.self.report.ending;
+      steps = c.play_plan.new.self.report.steps;
+      shown = c.play_plan.new.self.report.transcript.items;
+    })
+ended c =
     let p = c.args.self.now.player in
     let input = c.args.self.now.lines.now in
     let rules = c.args.self.now.rules in
     let report = c.play_plan.new.self.report in
-    let run = open_ends (play p input rules) c.play_plan.new.self.trial report.steps report.transcript.items
+    open_ends (play p input rules) c.play_plan.new.self.trial report.steps report.transcript.items
     (most_answers p input rules.limit) (c.run_laws.ensures.reads p input rules) (recorded c.args.self.now.trial)
-    c.in_ok-play_plan.ensures.plan c.requires.opens report.ending c.in_ok-play_plan.ensures.ends in
-    rw (c.hand_over.ensures.asked, all_bounds (play p input rules) c.play_plan.new.self.trial run.bounds_are) run
+    c.in_ok-play_plan.ensures.plan c.requires.opens report.ending c.in_ok-play_plan.ensures.ends
+
+pub returns-clause-ends : goal.returns-clause-ends
+returns-clause-ends c =
+    let run = ended c in
+    rw (
+      c.hand_over.ensures.asked,
+      all_bounds (play c.args.self.now.player c.args.self.now.lines.now
+          c.args.self.now.rules) c.play_plan.new.self.trial run.bounds_are,
+    ) run
 
 pub returns-clause-copies : goal.returns-clause-copies
 returns-clause-copies c =
-    let p = c.args.self.now.player in
-    let input = c.args.self.now.lines.now in
-    let rules = c.args.self.now.rules in
-    let report = c.play_plan.new.self.report in
-    let trial = c.play_plan.new.self.trial in
-    let run = open_ends (play p input rules) trial report.steps report.transcript.items
-    (most_answers p input rules.limit) (c.run_laws.ensures.reads p input rules) (recorded c.args.self.now.trial)
-    c.in_ok-play_plan.ensures.plan c.requires.opens report.ending c.in_ok-play_plan.ensures.ends in
-    kept_same p p input input rules (choices_of trial).taken _ report.transcript.items _
-    c.play_plan.new.self.copies.kept.items _ refl refl (ap answers_in c.hand_over.ensures.asked
-    ∙ sym (all_given (play p input rules) trial run.bounds_are)) refl refl c.in_ok-play_plan.ensures.copies
+    let old = c.args.self.now in
+    let new = c.play_plan.new.self in
+    let run = ended c in
+    kept_same old.player old.player old.lines.now old.lines.now old.rules (choices_of new.trial).taken _
+    new.report.transcript.items _ new.copies.kept.items _ refl refl (ap answers_in c.hand_over.ensures.asked
+    ∙ sym (all_given (play old.player old.lines.now old.rules) new.trial run.bounds_are)) refl refl
+    c.in_ok-play_plan.ensures.copies
 
 pub returns-in_err-play_plan : goal.returns-in_err-play_plan
 returns-in_err-play_plan c = record {
