@@ -11,7 +11,7 @@ use Rattle.ptb_machine.specs.State.{State}
 use Rattle.ptb_machine.specs.Laws.{RunLaws}
 use Rattle.ptb_machine.specs.Steps.{QuietTurns}
 use Rattle.ptb_explore.specs.PlannedPlays.{run_from}
-use Rattle.ptb_chances.specs.Standing.{Came, IsOver, SameEnd}
+use Rattle.ptb_chances.specs.Standing.{Came, IsOver, SameEnd, StandsAt}
 use Rattle.ptb_chances.proofs.PlaySteps.{advanced}
 use Rattle.ptb_chances.proofs.Picked.{whole}
 
@@ -80,22 +80,32 @@ over_named q p r rules S a e text program by x =
 
 -- ---- one command more, where nothing was asked before
 
-module _ (laws : RunLaws) (p q : StoredProgram) (rules r : Rules) (program : q ≡ p) (by : r ≡ rules) (S : State)
-    (m new : Configuration) (n : ℕ) (left now : List (List ℕ)) (lines_are : now ≡ left) (shown text : List ℕ)
-    (text_is : text ≡ shown)
-    (u : Came p rules S [] m left shown) (turns : QuietTurns q r.limit n m new) where
+-- commands that ask nothing were done, by a machine with its program and its rules by another name; these lines are
+-- left now, and this was shown
+pub record HasAdvanced (p q : StoredProgram) (rules r : Rules) (m new : Configuration) (left now : List (List ℕ))
+    (shown text : List ℕ) : Type 0 where
+  pub program : q ≡ p
+  pub by : r ≡ rules
+  pub lines_are : now ≡ left
+  pub text_is : text ≡ shown
+  pub count : ℕ
+  pub turns : QuietTurns q r.limit count m new
+
+module _ (laws : RunLaws) (p q : StoredProgram) (rules r : Rules) (S : State) (m new : Configuration)
+    (left now : List (List ℕ)) (shown text : List ℕ) (a : HasAdvanced p q rules r m new left now shown text)
+    (u : Came p rules S [] m left shown) where
   -- the commands that ask nothing are done
   pub gone : Came q r S [] new now text
   gone =
-      came_named q q r r S [] [] new new left now shown text refl refl refl refl (sym lines_are) (sym text_is)
-      (advanced laws q r q n S m new [] shown left refl (came_named p q rules r S [] [] m m left left shown shown
-      (sym program) (sym by) refl refl refl refl u) turns)
+      came_named q q r r S [] [] new new left now shown text refl refl refl refl (sym a.lines_are) (sym a.text_is)
+      (advanced laws q r q a.count S m new [] shown left refl (came_named p q rules r S [] [] m m left left shown shown
+      (sym a.program) (sym a.by) refl refl refl refl u) a.turns)
 
   pub gone_opens : (b : Answers) → b ≡ [] → is_open (run_from p rules S []) ≡ true
       → is_open (run_from q r gone.state b) ≡ true
   gone_opens b none opens =
       let there : is_open (run_from q r S []) ≡ true = subst (λ (z : StoredProgram). is_open (run_from z r S []) ≡ true)
-      (sym program) (subst (λ (z : Rules). is_open (run_from p z S []) ≡ true) (sym by) opens) in
+      (sym a.program) (subst (λ (z : Rules). is_open (run_from p z S []) ≡ true) (sym a.by) opens) in
       subst (λ (z : Answers). is_open (run_from q r gone.state z) ≡ true) (sym none)
       (opens_later q r S [] new now text gone there)
 
@@ -103,21 +113,23 @@ module _ (laws : RunLaws) (p q : StoredProgram) (rules r : Rules) (program : q �
   pub gone_waits : (k : Configuration) (rest : List (List ℕ)) (end : List ℕ) → k ≡ new → now ≡ rest → SameEnd text end
       → Came p rules S [] k rest end
   gone_waits k rest end same rest_is ended =
-      came_named q p r rules S [] [] new k now rest end end program by refl (sym same) rest_is refl
+      came_named q p r rules S [] [] new k now rest end end a.program a.by refl (sym same) rest_is refl
       (came_ended q r S [] new now text gone end ended)
 
   -- then one is done
   pub gone_on : (b : Answers) (k : Configuration) (rest rest2 : List (List ℕ)) (more : List ℕ) → b ≡ [] → rest ≡ rest2
-      → Came q r gone.state b k rest more → Came p rules S [] k rest2 more
-  gone_on b k rest rest2 more none rest_is x =
-      let y : Came q r gone.state [] k rest more = subst (λ (z : Answers). Came q r gone.state z k rest more) none x in
-      came_named q p r rules S [] [] k k rest rest2 more more program by refl refl rest_is refl
+      → ((t : State) → StandsAt q r new now text t → Came q r t b k rest more) → Came p rules S [] k rest2 more
+  gone_on b k rest rest2 more none rest_is plays =
+      let y : Came q r gone.state [] k rest more = subst (λ (z : Answers). Came q r gone.state z k rest more) none
+      (plays gone.state gone.stands) in
+      came_named q p r rules S [] [] k k rest rest2 more more a.program a.by refl refl rest_is refl
       (came_later q r S [] new now text gone k rest more y)
 
-  pub gone_over : (b : Answers) (g : ℕ) (e : Ending) (more : List ℕ) → b ≡ [] → IsOver q r gone.state (take g b) e more
-      → IsOver p rules S [] e more
-  gone_over b g e more none x = over_named q p r rules S [] e more program by
-      (over_later q r S [] new now text gone [] (take g b) e more refl (none_taken g b none) x)
+  pub gone_over : (b : Answers) (g : ℕ) (e : Ending) (more : List ℕ) → b ≡ []
+      → ((t : State) → StandsAt q r new now text t → IsOver q r t (take g b) e more) → IsOver p rules S [] e more
+  gone_over b g e more none plays = over_named q p r rules S [] e more a.program a.by
+      (over_later q r S [] new now text gone [] (take g b) e more refl (none_taken g b none)
+      (plays gone.state gone.stands))
 
 -- ---- what is after a plan
 
@@ -131,15 +143,16 @@ module _ (p q : StoredProgram) (rules r : Rules) (program : q ≡ p) (by : r ≡
   plan_opens opens = opens_later q r S a m now shown named (subst (λ (z : StoredProgram). is_open (run_from z r S a)
       ≡ true) (sym program) (subst (λ (z : Rules). is_open (run_from p z S a) ≡ true) (sym by) opens))
 
-  pub plan_over : (e : Ending) (more : List ℕ) → IsOver q r named.state [] e more
+  pub plan_over : (e : Ending) (more : List ℕ) → ((t : State) → StandsAt q r m now shown t → IsOver q r t [] e more)
       → IsOver p rules S (take (length a) a) e more
-  plan_over e more x = over_named q p r rules S (take (length a) a) e more program by
-      (over_later q r S a m now shown named (take (length a) a) [] e more (whole a) refl x)
+  plan_over e more goes = over_named q p r rules S (take (length a) a) e more program by
+      (over_later q r S a m now shown named (take (length a) a) [] e more (whole a) refl
+      (goes named.state named.stands))
 
   pub plan_waits : (k : Configuration) (rest rest2 : List (List ℕ)) (end : List ℕ) → rest ≡ rest2
-      → Came q r named.state [] k rest end → Came p rules S a k rest2 end
-  plan_waits k rest rest2 end rest_is x = came_named q p r rules S a a k k rest rest2 end end program by refl refl
-      rest_is refl (came_later q r S a m now shown named k rest end x)
+      → ((t : State) → StandsAt q r m now shown t → Came q r t [] k rest end) → Came p rules S a k rest2 end
+  plan_waits k rest rest2 end rest_is goes = came_named q p r rules S a a k k rest rest2 end end program by refl refl
+      rest_is refl (came_later q r S a m now shown named k rest end (goes named.state named.stands))
 
 pub turns_named : (q p : StoredProgram) (r rules : Rules) (n : ℕ) (m new : Configuration) → q ≡ p → r ≡ rules
     → QuietTurns q r.limit n m new → QuietTurns p rules.limit n m new

@@ -12,6 +12,7 @@ use Rattle.std.proofs.lemmas.Map.Lookups.{exact_unsigned, exact_bytes}
 use Rattle.ptb_machine.specs.declared.ending.Ending.{Ending}
 use Rattle.ptb_machine.specs.declared.ending.Ending.TheVariants as endings
 use Rattle.ptb_explore.specs.Chances.{RunResult, rank, result_order, placed, with_result, results}
+use Rattle.ptb_explore.proofs.EveryEnding.{every_ending}
 use Rattle.ptb_chances.specs.Order.{result_order_total}
 
 -- ---- what is equal in the order is the same
@@ -22,15 +23,7 @@ ending_at n = get_or (endings.End ∷ endings.Stop ∷ endings.What ∷ endings.
 
 ending_back : (e : Ending) → ending_at (rank e) ≡ e
 unfolding ending_at
-ending_back endings.End = refl
-ending_back endings.Stop = refl
-ending_back endings.What = refl
-ending_back endings.How = refl
-ending_back endings.Sorry = refl
-ending_back endings.Limit = refl
-ending_back endings.NoInput = refl
-ending_back endings.NoAnswer = refl
-ending_back endings.BadAnswer = refl
+ending_back = every_ending (λ e. ending_at (rank e) ≡ e) refl refl refl refl refl refl refl refl refl
 
 rank_exact : (e f : Ending) → rank e ≡ rank f → e ≡ f
 rank_exact e f h = sym (ending_back e) ∙ ap ending_at h ∙ ending_back f

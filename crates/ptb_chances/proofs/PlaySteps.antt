@@ -28,6 +28,7 @@ use Rattle.ptb_machine.specs.Steps.{FitsProgram, QuietTurns, Steps}
 use Rattle.ptb_machine.specs.TurnResults.{StepsTo, goes, ends, StepComes}
 use Rattle.ptb_explore.specs.Chances.{last_line}
 use Rattle.ptb_explore.specs.PlannedPlays.{run_from}
+use Rattle.ptb_explore.proofs.RunPrefix.{of_turn}
 use Rattle.ptb_chances.specs.Planned.{PlanAnswers, choices_of, RefusedByPlan}
 use Rattle.ptb_chances.specs.Standing.{SameEnd, StandsAt, Came, IsOver, IsAsked, PlaysTo, played_of}
 use Rattle.ptb_chances.specs.declared.plays.Played.{Played}
@@ -224,21 +225,12 @@ module _ (laws : RunLaws) (p : StoredProgram) (rules : Rules) where
     turn_plan : (g : State → Answers → Outcome StepResult State) → Led g → l.answers ≡ c.plan
     turn_plan g x = ap (λ (y : Choices). y.plan) x.exchanges.grown
 
-    ending_plan : (e : Ending) → Comes (Ok (Some e)) → l.answers ≡ c.plan
-    ending_plan endings.End x = turn_plan (ends endings.End) x
-    ending_plan endings.Stop x = turn_plan (ends endings.Stop) x
-    ending_plan endings.What x = turn_plan (ends endings.What) x
-    ending_plan endings.How x = turn_plan (ends endings.How) x
-    ending_plan endings.Sorry x = turn_plan (ends endings.Sorry) x
-    ending_plan endings.Limit x = turn_plan (ends endings.Limit) x
-    ending_plan endings.NoInput w = turn_plan w.left w.comes
-    ending_plan endings.NoAnswer w = turn_plan w.left w.comes
-    ending_plan endings.BadAnswer w = turn_plan w.1.left w.1.comes
-
     -- the plan stays
     pub step_plan : (o : Option Ending) → r ≡ Ok o → l.answers ≡ c.plan
     step_plan None is = turn_plan goes (comes (Ok None) is)
-    step_plan (Some e) is = ending_plan e (comes (Ok (Some e)) is)
+    step_plan (Some e) is = of_turn (refused_by (RefusedByPlan l) (λ _. ⊥) (Some rest))
+        (StepsTo p.lines new (devices c (text_state s) most rules.choose []) u.state rest (turn p rules.limit u.state))
+        (devices (choices_of l) (text_state t) few rules.choose given) turn_plan e (comes (Ok (Some e)) is)
 
     step_asks : r ≡ Ok (Some endings.NoAnswer) → IsAsked p rules S l.answers l.refused_bound
     step_asks is = turn_asks S m new c l s t given left rest most few u (comes (Ok (Some endings.NoAnswer)) is)

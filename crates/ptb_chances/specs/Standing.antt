@@ -2,15 +2,17 @@
 --     SameEnd s t                      whatever is shown next, the last line is the same after s and after t
 --     StandsAt p rules m left shown S      a machine stands for the state S; these lines are left, and this was shown
 --                                          last
+--     StandsAtPlace stage place S      the same of the machine of a place
+--     CanPlay stage place plan         a plan that is open can be played on from a place
 --     Came p rules S a m left shown    with the answers a, a run has come from the state S to where a machine is
 --     IsOver p rules S a ending shown  with these answers it is over
 --     IsAsked p rules S a n            with these answers it asks a question with bound n
 --     played_of ending n               how a play has ended
 --     PlaysTo ..                       one of the three
-use Rattle.std.specs.Prelude.{◌≡◌, ℕ, List, ◌++◌, ℤ}
+use Rattle.std.specs.Prelude.{◌≡◌, ℕ, ◌≤◌, List, ◌++◌, ℤ, drop, length, false, true}
 use Rattle.ptb_text.specs.Lines.{lines}
 use Rattle.ptb_text.specs.Statements.{StoredProgram}
-use Rattle.ptb_answers.specs.Outcome.{Answers, Done, Asks}
+use Rattle.ptb_answers.specs.Outcome.{Answers, Done, Asks, is_open}
 use Rattle.ptb_answers.specs.declared.rules.Rules.{Rules}
 use Rattle.ptb_machine.specs.declared.ending.Ending.{Ending}
 use Rattle.ptb_machine.specs.declared.ending.Ending.TheVariants as endings
@@ -22,6 +24,8 @@ use Rattle.ptb_explore.specs.Chances.{last_line}
 use Rattle.ptb_explore.specs.PlannedPlays.{run_from}
 use Rattle.ptb_chances.specs.declared.plays.Played.{Played}
 use Rattle.ptb_chances.specs.declared.plays.Played.TheVariants as played
+use Rattle.ptb_chances.specs.declared.stage.Stage.{Stage}
+use Rattle.ptb_chances.specs.declared.worklist.Place.{Place}
 
 abbrev pub SameEnd : List ℕ → List ℕ → Type 0
 SameEnd s t = (more : List ℕ) → last_line (lines (s ++ more)) ≡ last_line (lines (t ++ more))
@@ -33,6 +37,15 @@ pub record StandsAt (p : StoredProgram) (rules : Rules) (m : Configuration) (lef
   pub lines_left : S.lines ≡ left
   pub choose : S.choose ≡ rules.choose
   pub same_end : SameEnd S.shown shown
+
+abbrev pub StandsAtPlace : Stage → Place → State → Type 0
+StandsAtPlace s place S = StandsAt s.player s.rules place.machine (drop place.taken s.console.source.lines)
+    place.shown.items S
+
+pub record CanPlay (s : Stage) (place : Place) (plan : Answers) : Type 0 where
+  pub unspent : place.machine.spent ≡ false
+  pub within : place.taken ≤ length s.console.source.lines
+  pub opens : (S : State) × StandsAtPlace s place S × (is_open (run_from s.player s.rules S plan) ≡ true)
 
 pub record Came (p : StoredProgram) (rules : Rules) (S : State) (answers : Answers) (m : Configuration)
     (left : List (List ℕ)) (shown : List ℕ) : Type 0 where

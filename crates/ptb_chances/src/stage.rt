@@ -6,7 +6,7 @@ ghost use Rattle.ptb_answers.specs.Outcome.{is_open};
 ghost use Rattle.ptb_machine.specs.State.{State};
 ghost use Rattle.ptb_explore.specs.PlannedPlays.{run_from};
 ghost use Rattle.ptb_chances.specs.Continuations.{ComesTo, GoesOn};
-ghost use Rattle.ptb_chances.specs.Standing.{PlaysTo, SameEnd, StandsAt};
+ghost use Rattle.ptb_chances.specs.Standing.{CanPlay, PlaysTo, SameEnd, StandsAt, StandsAtPlace};
 ghost use Rattle.ptb_machine.specs.Steps.{FitsProgram, QuietTurns};
 
 use crate::last_line::last_lines;
@@ -31,20 +31,13 @@ pub(crate) struct Stage<'p, 'l> {
 impl<'p, 'l> Stage<'p, 'l> {
     // Plays a plan on from its place, up to the end of the command that takes its last answer.
     fn start(&mut self, alloc: Global, place: &Place, plan: &Plan) -> Result<Played, AllocError>
-        requires unspent { place.now.machine.spent ≡ false }
-        requires within { place.now.taken ≤ length self.old.console.source.lines }
-        requires opens { (S : State) × StandsAt self.old.player self.old.rules
-            place.now.machine (drop place.now.taken self.old.console.source.lines)
-            place.now.shown.items S
-            × (is_open (run_from self.old.player self.old.rules S plan.now.answers.items) ≡ true) }
+        requires { CanPlay self.old place.now plan.now.answers.items }
         ensures player { self.new.player ≡ self.old.player }
         ensures rules { self.new.rules ≡ self.old.rules }
         ensures same_lines { self.new.console.source.lines ≡ self.old.console.source.lines }
         ensures plays { IfOk result (λ played. (given : ℕ) × ((S : State) →
-            StandsAt self.old.player self.old.rules place.now.machine
-            (drop place.now.taken self.old.console.source.lines) place.now.shown.items S
-            → PlaysTo self.old.player self.old.rules S (take given plan.now.answers.items)
-            plan.now.answers.items self.new.trial
+            StandsAtPlace self.old place.now S → PlaysTo self.old.player self.old.rules S
+            (take given plan.now.answers.items) plan.now.answers.items self.new.trial
             (drop self.new.console.source.taken self.old.console.source.lines)
             self.new.console.screen played)) }
         ensures goes { IfOk result (λ played. played ≡ Played.Goes →
@@ -143,20 +136,14 @@ impl<'p, 'l> Stage<'p, 'l> {
         place: &Place,
         plan: &Plan,
     ) -> Result<Played, AllocError>
-        requires unspent { place.now.machine.spent ≡ false }
-        requires within { place.now.taken ≤ length self.old.console.source.lines }
-        requires opens { (S : State) × StandsAt self.old.player self.old.rules
-            place.now.machine (drop place.now.taken self.old.console.source.lines)
-            place.now.shown.items S
-            × (is_open (run_from self.old.player self.old.rules S plan.now.answers.items) ≡ true) }
+        requires { CanPlay self.old place.now plan.now.answers.items }
         ensures player { self.new.player ≡ self.old.player }
         ensures rules { self.new.rules ≡ self.old.rules }
         ensures same_lines { self.new.console.source.lines ≡ self.old.console.source.lines }
         ensures plays { IfOk result (λ played. (given : ℕ) × ((S : State) →
-            StandsAt self.old.player self.old.rules place.now.machine
-            (drop place.now.taken self.old.console.source.lines) place.now.shown.items S
-            → ComesTo self.old.player self.old.rules S given plan.now.answers.items
-            self.new.before self.old.console.source.lines self.new.console.screen played)) }
+            StandsAtPlace self.old place.now S → ComesTo self.old.player self.old.rules S given
+            plan.now.answers.items self.new.before self.old.console.source.lines
+            self.new.console.screen played)) }
         ensures goes { IfOk result (λ played. played ≡ Played.Goes →
             (self.new.before.machine.spent ≡ false)
             × (self.old.rules.limit - self.new.before.machine.steps

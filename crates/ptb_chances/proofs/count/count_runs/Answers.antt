@@ -26,15 +26,8 @@ plans-init g c =
 
 pub settle-requires : goal.settle-requires
 settle-requires g c =
-    let p = c.args.program.now in
-    let input = c.args.lines.now in
-    let by = c.args.rules in
-    let most = most_answers p input by.limit in
-    let l = c.plans in
-    let i = l.invariant in
-    rw (i.player, i.lines, i.rules)
-    (accounted_next p input by most l.counting.tally (standings l.counting.work) (standings c.next.new.self)
-    (planned c.next.new.self.place c.in-Some.plan) c.in-Some.ensures.some i.accounted)
+    let i = c.plans.invariant in
+    rw (i.player, i.lines, i.rules) (accounted_next _ _ _ _ _ _ _ _ c.in-Some.ensures.some i.accounted)
 
 pub plans-smaller : goal.plans-smaller
 plans-smaller g c =
@@ -59,12 +52,7 @@ plans-preserved g c =
 
 pub returns-in_default : goal.returns-in_default
 returns-in_default g c =
-    let p = c.args.program.now in
-    let input = c.args.lines.now in
-    let by = c.args.rules in
-    let most = most_answers p input by.limit in
-    let l = c.plans in
-    let i = l.invariant in
-    let none : standings l.counting.work ≡ [] = search rules in
-    accounted_last p input by most l.counting.tally
-    (subst (λ (ws : List Standing). Accounted p input by most l.counting.tally ws) none i.accounted)
+    let none : standings c.plans.counting.work ≡ [] = search rules in
+    accounted_last _ _ _ _ _ (subst (λ (ws : List Standing). Accounted c.args.program.now c.args.lines.now c.args.rules
+    (most_answers c.args.program.now c.args.lines.now c.args.rules.limit) c.plans.counting.tally ws) none
+    c.plans.invariant.accounted)

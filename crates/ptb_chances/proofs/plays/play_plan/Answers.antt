@@ -2,13 +2,28 @@
 use Rattle.std.proofs.Common.{◌≡◌, take, drop, length, refl, rules, sym, ap, ◌∙◌, arith, true, Ok}
 use Rattle.std.proofs.Common.{Err, Some, None, FitsSigned, w16, to_z-of_z}
 use Rattle.ptb_answers.specs.Outcome.{is_open}
+use Rattle.ptb_machine.specs.State.{State}
 use Rattle.ptb_explore.specs.PlannedPlays.{run_from}
 use Rattle.ptb_chances.specs.Planned.{choices_of}
+use Rattle.ptb_chances.specs.Standing.{Came}
 use Rattle.ptb_chances.proofs.PlaySteps.{advanced, came_by, none_follow, never_out, never_unread}
 use Rattle.ptb_chances.proofs.PlaySteps.{never_unwritten, plays_by, step_came, step_plays}
 use Rattle.ptb_chances.proofs.PlaySteps.{step_plan, taken_within}
 use Rattle.ptb_chances.proofs.Picked.{whole}
 use Rattle.ptb_chances.proofs.plays.play_plan.Goals as goal
+use Rattle.ptb_chances.proofs.plays.play_plan.Goals.{After-advance}
+
+-- what came before still holds after the machine advanced
+advances : (c : After-advance) (S : State)
+    → Came c.commands.player c.args.rules S (choices_of c.commands.plan).taken c.commands.machine
+    (drop c.commands.console.source.taken c.commands.console.source.lines) c.commands.console.screen
+    → Came c.advance.new.self c.args.rules S (choices_of c.commands.plan).taken c.advance.new.machine
+    (drop c.commands.console.source.taken c.commands.console.source.lines) c.commands.console.screen
+advances c S came =
+    let turns = c.advance.ensures.turns in
+    advanced c.run_laws.ensures c.commands.player c.args.rules c.advance.new.self turns.0 S c.commands.machine
+    c.advance.new.machine (choices_of c.commands.plan).taken c.commands.console.screen _ c.advance.ensures.program
+    came turns.1.1
 
 pub commands-preserved : goal.commands-preserved
 commands-preserved c =
@@ -18,9 +33,7 @@ commands-preserved c =
     let turn = c.step.ensures.step.turn in
     let turns = c.advance.ensures.turns in
     let o = c.requires.opens in
-    let u = advanced c.run_laws.ensures l.player c.args.rules c.advance.new.self turns.0 o.0 l.machine
-    c.advance.new.machine (choices_of l.plan).taken l.console.screen _ c.advance.ensures.program
-    (i.came o.0 o.1) turns.1.1 in
+    let u = advances (goal.at.commands-preserved c).After-advance o.0 (i.came o.0 o.1) in
     record {
       program = c.step.ensures.program ∙ (c.advance.ensures.program ∙ i.program);
       answers = step_plan c.run_laws.ensures c.advance.new.self c.args.rules o.0 _ _
@@ -32,9 +45,7 @@ commands-preserved c =
       unspent = c.step.ensures.step.spends.0 is;
       steps = omega (arith, i.steps, turns.1.0, (c.step.ensures.step.begun is).1);
       came = λ S h.
-          let v = advanced c.run_laws.ensures l.player c.args.rules c.advance.new.self turns.0 S l.machine
-          c.advance.new.machine (choices_of l.plan).taken l.console.screen _ c.advance.ensures.program
-          (i.came S h) turns.1.1 in
+          let v = advances (goal.at.commands-preserved c).After-advance S (i.came S h) in
           came_by c.advance.new.self c.step.new.self c.args.rules S _ _ _ _ _ _ (sym c.step.ensures.program) refl refl
           (step_came c.run_laws.ensures c.advance.new.self c.args.rules S _ _ (choices_of l.plan)
           (choices_of c.step.new.chooser) _ _ turn.given _ _ _ _ _ _ is v turn.gives.first
@@ -48,11 +59,8 @@ ended-requires c = λ bad.
     let is : c.step.result ≡ Ok (Some c.in-Ok-Some.ending) =
     c.in-Ok-Some.is ∙ ap Ok (c.in-Ok-Some.field-0-is ∙ ap Some c.in-Ok-Some.ending-is) in
     let turn = c.step.ensures.step.turn in
-    let turns = c.advance.ensures.turns in
     let o = c.requires.opens in
-    let u = advanced c.run_laws.ensures l.player c.args.rules c.advance.new.self turns.0 o.0 l.machine
-    c.advance.new.machine (choices_of l.plan).taken l.console.screen _ c.advance.ensures.program
-    (i.came o.0 o.1) turns.1.1 in
+    let u = advances (goal.at.ended-requires c).After-advance o.0 (i.came o.0 o.1) in
     let plan = step_plan c.run_laws.ensures c.advance.new.self c.args.rules o.0 _ _
     (choices_of l.plan) c.step.new.chooser _ _ turn.given _ _ _ _ _ u turn.gives.first
     (none_follow c.step.new.source) turn.steps (Some c.in-Ok-Some.ending) is in
@@ -69,17 +77,12 @@ returns-in-Ok-Some-clause-plays c = λ S h.
     let is : c.step.result ≡ Ok (Some c.in-Ok-Some.ending) =
     c.in-Ok-Some.is ∙ ap Ok (c.in-Ok-Some.field-0-is ∙ ap Some c.in-Ok-Some.ending-is) in
     let turn = c.step.ensures.step.turn in
-    let turns = c.advance.ensures.turns in
-    let v = advanced c.run_laws.ensures l.player c.args.rules c.advance.new.self turns.0 S l.machine
-    c.advance.new.machine (choices_of l.plan).taken l.console.screen _ c.advance.ensures.program
-    (i.came S h) turns.1.1 in
+    let v = advances (goal.at.returns-in-Ok-Some-clause-plays c).After-advance S (i.came S h) in
     let plan = step_plan c.run_laws.ensures c.advance.new.self c.args.rules S _ _
     (choices_of l.plan) c.step.new.chooser _ _ turn.given _ _ _ _ _ v turn.gives.first
     (none_follow c.step.new.source) turn.steps (Some c.in-Ok-Some.ending) is in
     let o = c.requires.opens in
-    let u = advanced c.run_laws.ensures l.player c.args.rules c.advance.new.self turns.0 o.0 l.machine
-    c.advance.new.machine (choices_of l.plan).taken l.console.screen _ c.advance.ensures.program
-    (i.came o.0 o.1) turns.1.1 in
+    let u = advances (goal.at.returns-in-Ok-Some-clause-plays c).After-advance o.0 (i.came o.0 o.1) in
     let opens : is_open (run_from c.advance.new.self c.args.rules o.0 c.step.new.chooser.answers) ≡ true =
     rw (c.advance.ensures.program ∙ i.program, plan ∙ i.answers) o.2 in
     let fits : FitsSigned w16 c.step.new.chooser.refused_bound = search rules in
@@ -113,10 +116,7 @@ returns-then-is_used_up-clause-plays c = λ S h.
     let i = l.invariant in
     let is : c.step.result ≡ Ok None = c.in-Ok-None.is ∙ ap Ok c.in-Ok-None.field-0-is in
     let turn = c.step.ensures.step.turn in
-    let turns = c.advance.ensures.turns in
-    let v = advanced c.run_laws.ensures l.player c.args.rules c.advance.new.self turns.0 S l.machine
-    c.advance.new.machine (choices_of l.plan).taken l.console.screen _ c.advance.ensures.program
-    (i.came S h) turns.1.1 in
+    let v = advances (goal.at.returns-then-is_used_up-clause-plays c).After-advance S (i.came S h) in
     let plan = step_plan c.run_laws.ensures c.advance.new.self c.args.rules S _ _ (choices_of l.plan) c.step.new.chooser
     _ _ turn.given _ _ _ _ _ v turn.gives.first (none_follow c.step.new.source) turn.steps None is in
     let given : c.step.new.chooser.given ≡ length c.step.new.chooser.answers = search rules in
@@ -129,26 +129,18 @@ returns-then-is_used_up-clause-plays c = λ S h.
 
 pub unreachable-requires : goal.unreachable-requires
 unreachable-requires c =
-    let l = c.commands in
     let turn = c.step.ensures.step.turn in
-    let turns = c.advance.ensures.turns in
-    let o = c.requires.opens in
-    let u = advanced c.run_laws.ensures l.player c.args.rules c.advance.new.self turns.0 o.0 l.machine
-    c.advance.new.machine (choices_of l.plan).taken l.console.screen _ c.advance.ensures.program
-    (l.invariant.came o.0 o.1) turns.1.1 in
-    never_unread c.run_laws.ensures c.advance.new.self c.args.rules o.0 _ _ (choices_of l.plan)
-    c.step.new.chooser _ _ turn.given _ _ _ _ _ u turn.gives.first (none_follow c.step.new.source) turn.steps
-    (c.in-Err-Read.is ∙ ap Err c.in-Err-Read.field-0-is)
+    let u = advances (goal.at.unreachable-requires c).After-advance c.requires.opens.0
+    (c.commands.invariant.came c.requires.opens.0 c.requires.opens.1) in
+    never_unread c.run_laws.ensures c.advance.new.self c.args.rules c.requires.opens.0 _ _
+    (choices_of c.commands.plan) c.step.new.chooser _ _ turn.given _ _ _ _ _ u turn.gives.first
+    (none_follow c.step.new.source) turn.steps (c.in-Err-Read.is ∙ ap Err c.in-Err-Read.field-0-is)
 
 pub unreachable-requires-in-Err-Write : goal.unreachable-requires-in-Err-Write
 unreachable-requires-in-Err-Write c =
-    let l = c.commands in
     let turn = c.step.ensures.step.turn in
-    let turns = c.advance.ensures.turns in
-    let o = c.requires.opens in
-    let u = advanced c.run_laws.ensures l.player c.args.rules c.advance.new.self turns.0 o.0 l.machine
-    c.advance.new.machine (choices_of l.plan).taken l.console.screen _ c.advance.ensures.program
-    (l.invariant.came o.0 o.1) turns.1.1 in
-    never_unwritten c.run_laws.ensures c.advance.new.self c.args.rules o.0 _ _
-    (choices_of l.plan) c.step.new.chooser _ _ turn.given _ _ _ _ _ u turn.gives.first
+    let u = advances (goal.at.unreachable-requires-in-Err-Write c).After-advance c.requires.opens.0
+    (c.commands.invariant.came c.requires.opens.0 c.requires.opens.1) in
+    never_unwritten c.run_laws.ensures c.advance.new.self c.args.rules c.requires.opens.0 _ _
+    (choices_of c.commands.plan) c.step.new.chooser _ _ turn.given _ _ _ _ _ u turn.gives.first
     (none_follow c.step.new.source) turn.steps (c.in-Err-Write.is ∙ ap Err c.in-Err-Write.field-0-is)

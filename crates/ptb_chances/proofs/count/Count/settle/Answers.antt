@@ -8,41 +8,26 @@ use Rattle.ptb_chances.proofs.SettledPlays.{asked_positive, one_opens, planned_l
 use Rattle.ptb_chances.proofs.SettledPlays.{settled_gone, settled_over}
 use Rattle.ptb_chances.proofs.count.Count.settle.Goals as goal
 
-pub play-requires-clause-opens : goal.play-requires-clause-opens
-play-requires-clause-opens c =
-    let s = c.args.self.now in
-    one_opens s.stage.player s.stage.console.source.lines s.stage.rules
-    (most_answers s.stage.player s.stage.console.source.lines s.stage.rules.limit)
-    (planned s.work.place c.args.plan) (standings s.work) s.tally c.requires
+pub play-requires : goal.play-requires
+play-requires c = record {
+  unspent = search rules;
+  within = search rules;
+  opens = one_opens _ _ _ _ _ _ _ c.requires;
+}
 
 pub add_plans-requires : goal.add_plans-requires
 add_plans-requires c =
-    let s = c.args.self.now in
-    let p = s.stage.player in
-    let input = s.stage.console.source.lines in
-    let by = s.stage.rules in
-    let most = most_answers p input by.limit in
-    let w = planned s.work.place c.args.plan in
-    let left = standings s.work in
-    let given = c.in_ok-played.ensures.plays.0 in
     let plays = rw c.in-Asks.is at c.in_ok-played.ensures.plays.1 in
     let fits : FitsSigned w16 c.in-Asks.bound = search rules in
-    rw (to_z-of_z fits) (asked_positive p input by most w left s.tally c.requires
-    (c.run_laws.ensures.reads p input by) c.in-Asks.bound plays)
+    rw (to_z-of_z fits)
+    (asked_positive _ _ _ _ _ _ _ c.requires (c.run_laws.ensures.reads _ _ _) c.in-Asks.bound plays)
 
 pub returns-in_ok-add_over-in-Over-clause-counted : goal.returns-in_ok-add_over-in-Over-clause-counted
 returns-in_ok-add_over-in-Over-clause-counted c =
-    let s = c.args.self.now in
-    let p = s.stage.player in
-    let input = s.stage.console.source.lines in
-    let by = s.stage.rules in
-    let most = most_answers p input by.limit in
-    let w = planned s.work.place c.args.plan in
-    let left = standings s.work in
-    let given = c.in_ok-played.ensures.plays.0 in
     let plays = rw c.in-Over.is at c.in_ok-played.ensures.plays.1 in
-    settled_over p input by most w left s.tally c.requires given c.in-Over.ending c.play.new.self.console.screen
-    c.add_over.new.tally plays (rw c.bytes-shown.ensures at c.in_ok-add_over-in-Over.ensures)
+    settled_over _ _ _ _ _ _ _ c.requires c.in_ok-played.ensures.plays.0 c.in-Over.ending
+    c.play.new.self.console.screen c.add_over.new.tally plays
+    (rw c.bytes-shown.ensures at c.in_ok-add_over-in-Over.ensures)
 
 pub returns-in_ok-add_over-in-Over-clause-less : goal.returns-in_ok-add_over-in-Over-clause-less
 returns-in_ok-add_over-in-Over-clause-less c =
@@ -52,53 +37,30 @@ returns-in_ok-add_over-in-Over-clause-less c =
 
 pub returns-in_ok-add_plans-in-Asks-clause-counted : goal.returns-in_ok-add_plans-in-Asks-clause-counted
 returns-in_ok-add_plans-in-Asks-clause-counted c =
-    let s = c.args.self.now in
-    let p = s.stage.player in
-    let input = s.stage.console.source.lines in
-    let by = s.stage.rules in
-    let most = most_answers p input by.limit in
-    let w = planned s.work.place c.args.plan in
-    let left = standings s.work in
-    let given = c.in_ok-played.ensures.plays.0 in
     let plays = rw c.in-Asks.is at c.in_ok-played.ensures.plays.1 in
     let fits : FitsSigned w16 c.in-Asks.bound = search rules in
-    settled_asked p input by most w left s.tally c.requires (c.run_laws.ensures.reads p input by) c.in-Asks.bound plays
+    settled_asked _ _ _ _ _ _ _ c.requires (c.run_laws.ensures.reads _ _ _) c.in-Asks.bound plays
     (standings c.add_plans.new.self) (rw (to_z-of_z fits) at c.in_ok-add_plans-in-Asks.ensures)
 
 pub returns-in_ok-add_plans-in-Asks-clause-less : goal.returns-in_ok-add_plans-in-Asks-clause-less
 returns-in_ok-add_plans-in-Asks-clause-less c =
-    let s = c.args.self.now in
-    let p = s.stage.player in
-    let input = s.stage.console.source.lines in
-    let by = s.stage.rules in
-    let most = most_answers p input by.limit in
-    let w = planned s.work.place c.args.plan in
-    let left = standings s.work in
-    let given = c.in_ok-played.ensures.plays.0 in
     let plays = rw c.in-Asks.is at c.in_ok-played.ensures.plays.1 in
     let fits : FitsSigned w16 c.in-Asks.bound = search rules in
     let few : unsigned_abs c.in-Asks.bound < 65536 = search rules in
-    load_asked by.limit most w c.in-Asks.bound (planned_less p input by most w left s.tally c.requires
-    (c.run_laws.ensures.reads p input by) c.in-Asks.bound plays) (unsigned_abs c.in-Asks.bound) left
-    (standings c.add_plans.new.self) few (rw (to_z-of_z fits) at c.in_ok-add_plans-in-Asks.ensures)
+    load_asked c.args.self.now.stage.rules.limit _ _ c.in-Asks.bound
+    (planned_less _ _ _ _ _ _ _ c.requires (c.run_laws.ensures.reads _ _ _) c.in-Asks.bound plays)
+    (unsigned_abs c.in-Asks.bound) _ (standings c.add_plans.new.self) few
+    (rw (to_z-of_z fits) at c.in_ok-add_plans-in-Asks.ensures)
 
 pub returns-in_ok-add-in-Goes-clause-counted : goal.returns-in_ok-add-in-Goes-clause-counted
 returns-in_ok-add-in-Goes-clause-counted c =
-    let s = c.args.self.now in
-    let p = s.stage.player in
-    let input = s.stage.console.source.lines in
-    let by = s.stage.rules in
-    let most = most_answers p input by.limit in
-    let w = planned s.work.place c.args.plan in
-    let left = standings s.work in
-    let given = c.in_ok-played.ensures.plays.0 in
     let plays = rw c.in-Goes.is at c.in_ok-played.ensures.plays.1 in
     let goes = c.in_ok-played.ensures.goes c.in-Goes.is in
     let before = c.play.new.self.before in
-    let put : Puts (standings s.work) (gone_to before.machine before.taken before.shown.items c.args.plan.chance
-    c.args.plan.runs) (standings c.add.new.self) =
+    let put : Puts (standings c.args.self.now.work) (gone_to before.machine before.taken before.shown.items
+    c.args.plan.chance c.args.plan.runs) (standings c.add.new.self) =
     rw (c.at.ensures, c.replace-place.ensures.value) at c.in_ok-add-in-Goes.ensures in
-    settled_gone p input by most w left s.tally c.requires _ _ _ _ plays goes.0 goes.2 put
+    settled_gone _ _ _ _ _ _ _ c.requires _ _ _ _ plays goes.0 goes.2 put
 
 pub returns-in_ok-add-in-Goes-clause-less : goal.returns-in_ok-add-in-Goes-clause-less
 returns-in_ok-add-in-Goes-clause-less c =

@@ -3,8 +3,10 @@ use Rattle.std.proofs.Common.{◌≡◌, List, ℕ, [], rules, refl, sym, ap, su
 use Rattle.ptb_chances.specs.Standing.{SameEnd}
 use Rattle.ptb_chances.specs.declared.plays.Console.{Console}
 use Rattle.ptb_chances.proofs.PlaySteps.{came_first, fits_there}
-use Rattle.ptb_chances.proofs.Continuations.{gone, gone_on, gone_opens, gone_over, gone_waits, turns_named}
+use Rattle.ptb_chances.proofs.Continuations.{HasAdvanced, gone, gone_on, gone_opens, gone_over, gone_waits}
+use Rattle.ptb_chances.proofs.Continuations.{turns_named}
 use Rattle.ptb_chances.proofs.stage.Stage.go_on.Goals as goal
+use Rattle.ptb_chances.proofs.stage.Stage.go_on.Goals.{After-advance}
 
 pub commands-init : goal.commands-init
 commands-init c = record {
@@ -23,88 +25,70 @@ advance-requires c =
     let o = c.requires.opens in
     rw i.player (record { fits = fits_there _ _ o.0 [] _ _ _ (i.came o.0 o.1) })
 
-pub play_plan-requires-clause-opens : goal.play_plan-requires-clause-opens
-play_plan-requires-clause-opens c =
+-- the commands that ask nothing were done
+has_advanced : (c : After-advance)
+    → HasAdvanced c.args.self.now.player c.advance.new.self.player c.args.self.now.rules c.advance.new.self.rules
+    c.commands.self.trial c.advance.new.self.trial
+    (drop c.commands.self.console.source.taken c.args.self.now.console.source.lines)
+    (drop c.advance.new.self.console.source.taken c.advance.new.self.console.source.lines)
+    c.commands.self.console.screen c.advance.new.self.console.screen
+has_advanced c =
     let l = c.commands in
     let i = l.invariant in
     let e = c.advance.ensures in
+    record {
+      program = e.player ∙ i.player;
+      by = e.rules ∙ i.rules;
+      lines_are = ap (λ (k : Console). drop k.source.taken k.source.lines) e.console
+          ∙ ap (drop l.self.console.source.taken) i.same_lines;
+      text_is = ap (λ (k : Console). k.screen) e.console;
+      count = e.turns.0;
+      turns = turns_named _ _ _ _ _ _ _ (sym e.player) (sym e.rules) e.turns.1.1;
+    }
+
+pub play_plan-requires-clause-opens : goal.play_plan-requires-clause-opens
+play_plan-requires-clause-opens c =
     let o = c.requires.opens in
-    let program = e.player ∙ i.player in
-    let by = e.rules ∙ i.rules in
-    let lines_are = ap (λ (k : Console). drop k.source.taken k.source.lines) e.console
-    ∙ ap (drop l.self.console.source.taken) i.same_lines in
-    let text_is = ap (λ (k : Console). k.screen) e.console in
-    let turns = turns_named _ _ _ _ _ _ _ (sym e.player) (sym e.rules) e.turns.1.1 in
     let none : c.new-chooser.result.answers ≡ [] = search rules in
-    let came = i.came o.0 o.1 in
-    let x = gone c.run_laws.ensures _ _ _ _ program by o.0 _ _ _ _ _ lines_are _ _ text_is came turns in (
+    let a = has_advanced (goal.at.play_plan-requires-clause-opens c).After-advance in
+    let came = c.commands.invariant.came o.0 o.1 in
+    let x = gone c.run_laws.ensures _ _ _ _ o.0 _ _ _ _ _ _ a came in (
       x.state,
       x.stands,
-      gone_opens c.run_laws.ensures _ _ _ _ program by o.0 _ _ _ _ _ lines_are _ _ text_is came turns
-          c.new-chooser.result.answers none o.2,
+      gone_opens c.run_laws.ensures _ _ _ _ o.0 _ _ _ _ _ _ a came c.new-chooser.result.answers none o.2,
     )
 
 pub commands-preserved : goal.commands-preserved
 commands-preserved c =
-    let l = c.commands in
-    let i = l.invariant in
+    let i = c.commands.invariant in
     let e = c.advance.ensures in
-    let program = e.player ∙ i.player in
-    let by = e.rules ∙ i.rules in
-    let lines_are = ap (λ (k : Console). drop k.source.taken k.source.lines) e.console
-    ∙ ap (drop l.self.console.source.taken) i.same_lines in
+    let a = has_advanced (goal.at.commands-preserved c).After-advance in
     let same_lines = ap (λ (k : Console). k.source.lines) e.console ∙ i.same_lines in
-    let text_is = ap (λ (k : Console). k.screen) e.console in
-    let turns = turns_named _ _ _ _ _ _ _ (sym e.player) (sym e.rules) e.turns.1.1 in
     let none : c.new-chooser.result.answers ≡ [] = search rules in
     let plays = rw c.in-Goes.is at c.in_ok-played.ensures.plays in
     let goes = c.in_ok-played.ensures.goes c.in-Goes.is in
     record {
-      player = c.play_plan.ensures.program ∙ program;
-      rules = by;
+      player = c.play_plan.ensures.program ∙ a.program;
+      rules = a.by;
       same_lines = c.play_plan.ensures.same_lines ∙ same_lines;
       within = rw same_lines at c.in_ok-played.ensures.within;
       unspent = goes.0;
-      steps = omega (arith, rw by at goes.1, e.turns.1.0, i.steps);
-      came = λ S h.
-          let came = i.came S h in
-          let x = gone c.run_laws.ensures _ _ _ _ program by S _ _ _ _ _ lines_are _ _ text_is came turns in
-          gone_on c.run_laws.ensures _ _ _ _ program by S _ _ _ _ _ lines_are _ _ text_is came turns
-          c.new-chooser.result.answers _ _ _ _ none (ap (drop c.play_plan.new.console.source.taken) same_lines)
-          (plays x.state x.stands);
+      steps = omega (arith, rw a.by at goes.1, e.turns.1.0, i.steps);
+      came = λ S h. gone_on c.run_laws.ensures _ _ _ _ S _ _ _ _ _ _ a (i.came S h) c.new-chooser.result.answers
+          _ _ _ _ none (ap (drop c.play_plan.new.console.source.taken) same_lines) plays;
     }
 
 pub returns-in-Over-clause-goes : goal.returns-in-Over-clause-goes
 returns-in-Over-clause-goes c = λ S h.
-    let l = c.commands in
-    let i = l.invariant in
-    let e = c.advance.ensures in
-    let program = e.player ∙ i.player in
-    let by = e.rules ∙ i.rules in
-    let lines_are = ap (λ (k : Console). drop k.source.taken k.source.lines) e.console
-    ∙ ap (drop l.self.console.source.taken) i.same_lines in
-    let text_is = ap (λ (k : Console). k.screen) e.console in
-    let turns = turns_named _ _ _ _ _ _ _ (sym e.player) (sym e.rules) e.turns.1.1 in
     let none : c.new-chooser.result.answers ≡ [] = search rules in
-    let plays = rw c.in-Over.is at c.in_ok-played.ensures.plays in
-    let came = i.came S h in
-    let x = gone c.run_laws.ensures _ _ _ _ program by S _ _ _ _ _ lines_are _ _ text_is came turns in
-    gone_over c.run_laws.ensures _ _ _ _ program by S _ _ _ _ _ lines_are _ _ text_is came turns
-    c.new-chooser.result.answers _ _ _ none (plays x.state x.stands)
+    let a = has_advanced (goal.at.returns-in-Over-clause-goes c).After-advance in
+    gone_over c.run_laws.ensures _ _ _ _ S _ _ _ _ _ _ a (c.commands.invariant.came S h) c.new-chooser.result.answers
+    _ _ _ none (rw c.in-Over.is at c.in_ok-played.ensures.plays)
 
 pub returns-in-Asks-clause-goes : goal.returns-in-Asks-clause-goes
 returns-in-Asks-clause-goes c = λ S h.
-    let l = c.commands in
-    let i = l.invariant in
-    let e = c.advance.ensures in
     let noted = c.in_ok-advance.ensures in
-    let program = e.player ∙ i.player in
-    let by = e.rules ∙ i.rules in
-    let lines_are = ap (λ (k : Console). drop k.source.taken k.source.lines) e.console
-    ∙ ap (drop l.self.console.source.taken) i.same_lines in
-    let text_is = ap (λ (k : Console). k.screen) e.console in
-    let turns = turns_named _ _ _ _ _ _ _ (sym e.player) (sym e.rules) e.turns.1.1 in
-    let rest = lines_are ∙ ap (λ n. drop n c.args.self.now.console.source.lines) (sym noted.taken) in
-    let end = subst (λ (s : List ℕ). SameEnd s c.advance.new.self.before.shown.items) (sym text_is) noted.shown in
-    gone_waits c.run_laws.ensures _ _ _ _ program by S _ _ _ _ _ lines_are _ _ text_is
-    (i.came S h) turns _ _ _ noted.machine rest end
+    let a = has_advanced (goal.at.returns-in-Asks-clause-goes c).After-advance in
+    let rest = a.lines_are ∙ ap (λ n. drop n c.args.self.now.console.source.lines) (sym noted.taken) in
+    let end = subst (λ (s : List ℕ). SameEnd s c.advance.new.self.before.shown.items) (sym a.text_is) noted.shown in
+    gone_waits c.run_laws.ensures _ _ _ _ S _ _ _ _ _ _ a (c.commands.invariant.came S h) _ _ _ noted.machine rest end

@@ -22,13 +22,10 @@ returns-in-Some-clause-plays c = (
   length c.args.plan.now.answers.items,
   λ S h.
       let e = c.start.ensures in
-      let plays = (rw c.in-Goes.is at c.in_ok-played.ensures.plays).1 in
       let lines_are = ap (drop c.start.new.self.console.source.taken) e.same_lines in
-      let came = plays S h in
-      let x = named _ _ _ _ e.player e.rules S c.args.plan.now.answers.items _ _ _ lines_are _ came in
-      let goes = rw c.in-Some.is at c.in_ok-over.ensures.goes in
+      let came = (rw c.in-Goes.is at c.in_ok-played.ensures.plays).1 S h in
       plan_over _ _ _ _ e.player e.rules S c.args.plan.now.answers.items _ _ _ lines_are _ came _ _
-      (goes x.state x.stands),
+      (rw c.in-Some.is at c.in_ok-over.ensures.goes),
 )
 
 pub returns-in-None-clause-plays : goal.returns-in-None-clause-plays
@@ -36,13 +33,10 @@ returns-in-None-clause-plays c = (
   0,
   λ S h.
       let e = c.start.ensures in
-      let plays = (rw c.in-Goes.is at c.in_ok-played.ensures.plays).1 in
       let lines_are = ap (drop c.start.new.self.console.source.taken) e.same_lines in
-      let came = plays S h in
-      let x = named _ _ _ _ e.player e.rules S c.args.plan.now.answers.items _ _ _ lines_are _ came in
-      let goes = rw c.in-None.is at c.in_ok-over.ensures.goes in
+      let came = (rw c.in-Goes.is at c.in_ok-played.ensures.plays).1 S h in
       plan_waits _ _ _ _ e.player e.rules S c.args.plan.now.answers.items _ _ _ lines_are _ came _ _ _ _
-      (ap (drop c.go_on.new.self.before.taken) e.same_lines) (goes x.state x.stands),
+      (ap (drop c.go_on.new.self.before.taken) e.same_lines) (rw c.in-None.is at c.in_ok-over.ensures.goes),
 )
 
 pub returns-in-Over-clause-plays : goal.returns-in-Over-clause-plays
