@@ -83,19 +83,15 @@ module _ (spelling : SpellingLaws) (laws : CommandLaws) (t : List ℕ) where
 
   -- ---- ends
 
+  whole_or_defect : (i : ℕ) (b : Bool) → Tells parts_fault (cond b (Whole [] i) (defect i))
+  whole_or_defect i true = refl
+  whole_or_defect i false = refl
+
   end_tells : (i : ℕ) → Tells parts_fault (end_check t i)
-  end_tells i = by_end (at_end t i)
-    where
-      by_end : (b : Bool) → Tells parts_fault (cond b (Whole [] i) (defect i))
-      by_end true = refl
-      by_end false = refl
+  end_tells i = whole_or_defect i (at_end t i)
 
   over_tells : (i : ℕ) → Tells parts_fault (over_check t i)
-  over_tells i = by_end (is_over t i)
-    where
-      by_end : (b : Bool) → Tells parts_fault (cond b (Whole [] i) (defect i))
-      by_end true = refl
-      by_end false = refl
+  over_tells i = whole_or_defect i (is_over t i)
 
   -- ---- LET and INPUT
 

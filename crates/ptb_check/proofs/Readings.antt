@@ -59,17 +59,14 @@ module _ (t : List ℕ) where
   spelled part i r (spells.plus_sign e d s) h = spelled Product _ r s tt
   spelled part i r (spells.no_sign e d s) h = spelled Product i r s tt
   spelled part i r (spells.sum_end e) h = h
-  spelled part i r (spells.sum_more {l = l} {x = x} {y = y} {op = op} e s u) h =
-      spelled (MoreSum (Bin op x y l)) l r u
-      (none_both (written_fault x) (written_fault y) h (spelled Product _ _ s tt))
+  spelled part i r (spells.sum_more e s u) h = spelled (MoreSum _) _ r u (none_both _ _ h (spelled Product _ _ s tt))
   spelled part i r (spells.product_malformed {x = x} {y = y} e s) h =
       some_second (written_fault x) (written_fault y) (spelled Product _ _ s tt)
   spelled part i r (spells.product {x = x} s u) h = spelled (MoreProduct x) _ r u (spelled Factor i _ s tt)
   spelled part i r (spells.first_factor_malformed s) h = spelled Factor i r s tt
   spelled part i r (spells.product_end e) h = h
-  spelled part i r (spells.product_more {l = l} {x = x} {y = y} {op = op} e s u) h =
-      spelled (MoreProduct (Bin op x y l)) l r u
-      (none_both (written_fault x) (written_fault y) h (spelled Factor _ _ s tt))
+  spelled part i r (spells.product_more e s u) h =
+      spelled (MoreProduct _) _ r u (none_both _ _ h (spelled Factor _ _ s tt))
   spelled part i r (spells.factor_malformed {x = x} {y = y} e s) h =
       some_second (written_fault x) (written_fault y) (spelled Factor _ _ s tt)
   spelled part i r (spells.rnd {r = q} e s) h = over Rnd _ q (λ y k. refl) (spelled Paren _ q s tt)

@@ -10,6 +10,7 @@ use Rattle.ptb_expr.specs.declared.fault.Fault.{Fault}
 use Rattle.ptb_text.specs.Device.{TakesSome}
 use Rattle.ptb_machine.specs.Act.{newline, report_bytes, fault_word}
 use Rattle.ptb_check.proofs.writer.write_report.Goals as goal
+use Rattle.ptb_check.proofs.writer.write_report.Goals.{After-write_parts}
 
 same_before : (k m : ℕ) (t : List ℕ) → m ≡ min k (length t) → take m t ≡ take k t
 same_before k m t is = elim (cases_lt k (length t)) [
@@ -31,18 +32,20 @@ in_parts word digits before after text n m f is count front rest at =
     let last : after ≡ drop f.mark text = rest ∙ same_after f.mark m text at in
     rw (is, count, first, last) refl
 
+-- the parts that are written are the report of the statement
+parts_are : (g : _) (c : After-write_parts g)
+    → c.fault_line-word.result.now ++ c.as_bytes-number.result.now ++ codes " " ++ c.split_at.result.0.now ++ codes "?"
+    ++ c.split_at.result.1.now ++ newline ≡ report_bytes true c.args.number c.args.text.now c.args.fault
+parts_are g c = in_parts _ _ _ _ c.args.text.now c.args.number c.min-mark.result c.args.fault
+    c.fault_line-word.ensures (c.as_bytes-number.ensures.value ∙ c.format.ensures.text)
+    c.split_at.ensures.front c.split_at.ensures.back c.min-mark.ensures
+
 pub returns-clause-ok : goal.returns-clause-ok
 returns-clause-ok g c =
-    on_ok_weaker c.write_parts.result
-    (λ e. subst (Appends _ _) (in_parts _ _ _ _ c.args.text.now c.args.number c.min-mark.result c.args.fault
-    c.fault_line-word.ensures (c.as_bytes-number.ensures.value ∙ c.format.ensures.text)
-    c.split_at.ensures.front c.split_at.ensures.back c.min-mark.ensures) e)
-    c.write_parts.ensures.ok
+    let whole = parts_are g (goal.at.returns-clause-ok g c).After-write_parts in
+    on_ok_weaker c.write_parts.result (λ e. subst (Appends _ _) whole e) c.write_parts.ensures.ok
 
 pub returns-clause-fault : goal.returns-clause-fault
 returns-clause-fault g c =
-    on_err_weaker c.write_parts.result
-    (λ e. subst (TakesSome _ _) (in_parts _ _ _ _ c.args.text.now c.args.number c.min-mark.result c.args.fault
-    c.fault_line-word.ensures (c.as_bytes-number.ensures.value ∙ c.format.ensures.text)
-    c.split_at.ensures.front c.split_at.ensures.back c.min-mark.ensures) e)
-    c.write_parts.ensures.fault
+    let whole = parts_are g (goal.at.returns-clause-fault g c).After-write_parts in
+    on_err_weaker c.write_parts.result (λ e. subst (TakesSome _ _) whole e) c.write_parts.ensures.fault
