@@ -1,6 +1,7 @@
 -- This file names the files of lemmas.
 pub mod AnswerTexts
 pub mod ReadItems
+pub mod ItemWords
 pub mod ListFaults
 pub mod ListReturns
 pub mod ListsKept

@@ -2,12 +2,13 @@
 -- 32767, and no bound for answers but 1 to 32767.
 -- Main lemmas: `memory_in_range` and `choose_in_range`.
 use Rattle.std.proofs.Common.{◌≡◌, ◌∙◌, ap, sym, refl, subst, inl, inr, ℕ, zero, suc, ◌<◌, ◌≤◌}
-use Rattle.std.proofs.Common.{true, List, [], ◌∷◌, length, map, get_or, Option, Some, None, pos}
+use Rattle.std.proofs.Common.{Bool, true, List, [], ◌∷◌, length, map, get_or, Option, Some, None, pos}
 use Rattle.std.proofs.Common.{arith}
-use Rattle.std.specs.Prelude.{codes, All, option_and_then, option_map, slice_get}
+use Rattle.std.specs.Prelude.{◌&&◌, not, codes, All, option_and_then, option_map, slice_get}
 use Rattle.std.specs.Option.{ForSome}
 use Rattle.std.specs.Borrow.{Bor}
 use Rattle.std.specs.Str.{bytes_eq}
+use Rattle.std.proofs.lemmas.Bool.{and_parts, false≢true}
 use Rattle.std.proofs.lemmas.List.{length-map, get_or-map}
 use Rattle.std.proofs.lemmas.List.Elements.{All-head}
 use Rattle.std.proofs.lemmas.Slice.Eq.{bytes_eq-Decides}
@@ -39,81 +40,61 @@ none_is_some n e = cc
 some_injective : (n k : ℕ) → Some n ≡ Some k → n ≡ k
 some_injective n k e = cc
 
+-- whether none of the rules has a name, and whether none has it but the one at a place
+has_none : List Rule → List ℕ → Bool
+has_none [] name = true
+has_none (r ∷ rs) name = not (bytes_eq r.id name) && has_none rs name
+
+has_only : List Rule → List ℕ → ℕ → Bool
+has_only [] name place = true
+has_only (r ∷ rs) name zero = has_none rs name
+has_only (r ∷ rs) name (suc place) = not (bytes_eq r.id name) && has_only rs name place
+
+none_has : (rs : List Rule) (name : List ℕ) (j : ℕ) (r : Rule) → has_none rs name ≡ true → j < length rs
+    → bytes_eq (get_or rs j r).id name ≡ true → ⊥
+unfolding has_none
+none_has [] name j r none lt e = omega arith
+none_has (q ∷ rs) name zero r none lt e = false≢true (sym (ap not e) ∙ (and_parts _ _ none).0)
+none_has (q ∷ rs) name (suc j) r none lt e = none_has rs name j r (and_parts _ _ none).1 (omega arith) e
+
+only_has : (rs : List Rule) (name : List ℕ) (place j : ℕ) (r : Rule) → has_only rs name place ≡ true → j < length rs
+    → bytes_eq (get_or rs j r).id name ≡ true → j ≡ place
+unfolding has_only
+only_has [] name place j r only lt e = absurd (omega arith)
+only_has (q ∷ rs) name zero zero r only lt e = refl
+only_has (q ∷ rs) name zero (suc j) r only lt e = absurd (none_has rs name j r only (omega arith) e)
+only_has (q ∷ rs) name (suc place) zero r only lt e = absurd (false≢true (sym (ap not e) ∙ (and_parts _ _ only).0))
+only_has (q ∷ rs) name (suc place) (suc j) r only lt e =
+    ap (λ n. suc n) (only_has rs name place j r (and_parts _ _ only).1 (omega arith) e)
+
 -- an option with a number: its place among the options, where no other has its name, and its range
 record IsOption (name : List ℕ) (place low high : ℕ) : Type 0 where
   there : (r : Rule) → get_or tool_rules place r ≡ number_option name (Signed (pos low) (pos high))
-  only : (j : ℕ) (r : Rule) → j < 16 → bytes_eq (get_or tool_rules j r).id name ≡ true → j ≡ place
+  only : has_only tool_rules name place ≡ true
   inside : place < 16
   fits : high < 65536
-  some : name ≡ [] → ⊥
-  no_help : name ≡ codes "help" → ⊥
-  no_version : name ≡ codes "version" → ⊥
+  named : (name ≡ [] → ⊥) × (name ≡ codes "help" → ⊥) × (name ≡ codes "version" → ⊥)
 
-memory_only : (j : ℕ) (r : Rule) → j < 16 → bytes_eq (get_or tool_rules j r).id (codes "memory") ≡ true → j ≡ 1
-memory_only zero r lt e = absurd (cc)
-memory_only (suc zero) r lt e = refl
-memory_only (suc (suc zero)) r lt e = absurd (cc)
-memory_only (suc (suc (suc zero))) r lt e = absurd (cc)
-memory_only (suc (suc (suc (suc zero)))) r lt e = absurd (cc)
-memory_only (suc (suc (suc (suc (suc zero))))) r lt e = absurd (cc)
-memory_only (suc (suc (suc (suc (suc (suc zero)))))) r lt e = absurd (cc)
-memory_only (suc (suc (suc (suc (suc (suc (suc zero))))))) r lt e = absurd (cc)
-memory_only (suc (suc (suc (suc (suc (suc (suc (suc zero)))))))) r lt e = absurd (cc)
-memory_only (suc (suc (suc (suc (suc (suc (suc (suc (suc zero))))))))) r lt e = absurd (cc)
-memory_only (suc (suc (suc (suc (suc (suc (suc (suc (suc (suc zero)))))))))) r lt e = absurd (cc)
-memory_only (suc (suc (suc (suc (suc (suc (suc (suc (suc (suc (suc zero))))))))))) r lt e = absurd (cc)
-memory_only (suc (suc (suc (suc (suc (suc (suc (suc (suc (suc (suc (suc zero)))))))))))) r lt e = absurd (cc)
-memory_only (suc (suc (suc (suc (suc (suc (suc (suc (suc (suc (suc (suc (suc zero))))))))))))) r lt e = absurd (cc)
-memory_only (suc (suc (suc (suc (suc (suc (suc (suc (suc (suc (suc (suc (suc (suc zero)))))))))))))) r lt e =
-    absurd (cc)
-memory_only (suc (suc (suc (suc (suc (suc (suc (suc (suc (suc (suc (suc (suc (suc (suc zero))))))))))))))) r lt e =
-    absurd (cc)
-memory_only (suc (suc (suc (suc (suc (suc (suc (suc (suc (suc (suc (suc (suc (suc (suc (suc j)))))))))))))))) r lt e =
-    absurd (omega arith)
-
-choose_only : (j : ℕ) (r : Rule) → j < 16 → bytes_eq (get_or tool_rules j r).id (codes "choose") ≡ true → j ≡ 2
-choose_only zero r lt e = absurd (cc)
-choose_only (suc zero) r lt e = absurd (cc)
-choose_only (suc (suc zero)) r lt e = refl
-choose_only (suc (suc (suc zero))) r lt e = absurd (cc)
-choose_only (suc (suc (suc (suc zero)))) r lt e = absurd (cc)
-choose_only (suc (suc (suc (suc (suc zero))))) r lt e = absurd (cc)
-choose_only (suc (suc (suc (suc (suc (suc zero)))))) r lt e = absurd (cc)
-choose_only (suc (suc (suc (suc (suc (suc (suc zero))))))) r lt e = absurd (cc)
-choose_only (suc (suc (suc (suc (suc (suc (suc (suc zero)))))))) r lt e = absurd (cc)
-choose_only (suc (suc (suc (suc (suc (suc (suc (suc (suc zero))))))))) r lt e = absurd (cc)
-choose_only (suc (suc (suc (suc (suc (suc (suc (suc (suc (suc zero)))))))))) r lt e = absurd (cc)
-choose_only (suc (suc (suc (suc (suc (suc (suc (suc (suc (suc (suc zero))))))))))) r lt e = absurd (cc)
-choose_only (suc (suc (suc (suc (suc (suc (suc (suc (suc (suc (suc (suc zero)))))))))))) r lt e = absurd (cc)
-choose_only (suc (suc (suc (suc (suc (suc (suc (suc (suc (suc (suc (suc (suc zero))))))))))))) r lt e = absurd (cc)
-choose_only (suc (suc (suc (suc (suc (suc (suc (suc (suc (suc (suc (suc (suc (suc zero)))))))))))))) r lt e =
-    absurd (cc)
-choose_only (suc (suc (suc (suc (suc (suc (suc (suc (suc (suc (suc (suc (suc (suc (suc zero))))))))))))))) r lt e =
-    absurd (cc)
-choose_only (suc (suc (suc (suc (suc (suc (suc (suc (suc (suc (suc (suc (suc (suc (suc (suc j)))))))))))))))) r lt e =
-    absurd (omega arith)
+-- it is an option up to 32767, where its name is none of clap's own
+option_up : (name : List ℕ) (place low : ℕ)
+    → ((r : Rule) → get_or tool_rules place r ≡ number_option name (Signed (pos low) (pos 32767)))
+    → has_only tool_rules name place ≡ true → place < 16
+    → (name ≡ [] → ⊥) × (name ≡ codes "help" → ⊥) × (name ≡ codes "version" → ⊥) → IsOption name place low 32767
+option_up name place low there only inside named = record {
+  there = there;
+  only = only;
+  inside = inside;
+  fits = omega arith;
+  named = named;
+}
 
 memory_option : IsOption (codes "memory") 1 64 32767
-memory_option = record {
-  there = λ r. refl;
-  only = memory_only;
-  inside = omega arith;
-  fits = omega arith;
-  some = λ e. cc;
-  no_help = λ e. cc;
-  no_version = λ e. cc;
-}
+unfolding has_only has_none
+memory_option = option_up (codes "memory") 1 64 (λ r. refl) refl (omega arith) (λ e. cc, λ e. cc, λ e. cc)
 
 choose_option : IsOption (codes "choose") 2 1 32767
-choose_option = record {
-  there = λ r. refl;
-  only = choose_only;
-  inside = omega arith;
-  fits = omega arith;
-  some = λ e. cc;
-  no_help = λ e. cc;
-  no_version = λ e. cc;
-}
+unfolding has_only has_none
+choose_option = option_up (codes "choose") 2 1 (λ r. refl) refl (omega arith) (λ e. cc, λ e. cc, λ e. cc)
 
 module _ (name : List ℕ) (place low high : ℕ) (option : IsOption name place low high) (c : Command) (m : ArgMatches)
     (is_tool : app_of c ≡ tool) (p : IsParsedFrom c m) where
@@ -135,8 +116,8 @@ module _ (name : List ℕ) (place low high : ℕ) (option : IsOption name place 
   id_is d = ap (λ r. r.id) (rule_at place d within ∙ option.there (rule_of d))
 
   own : (d : Arg) → IsAuto (get_or (args_of c) place d) → ⊥
-  own d (inl h) = option.no_help (sym (id_is d) ∙ h)
-  own d (inr h) = option.no_version (sym (id_is d) ∙ h)
+  own d (inl h) = option.named.1 (sym (id_is d) ∙ h)
+  own d (inr h) = option.named.2 (sym (id_is d) ∙ h)
 
   unique : (d : Arg) (j : ℕ) (e : Arg) → j < length (args_of c)
       → bytes_eq (get_or (args_of c) j e).id.now (get_or (args_of c) place d).id.now ≡ true → j ≡ place
@@ -144,7 +125,8 @@ module _ (name : List ℕ) (place low high : ℕ) (option : IsOption name place 
       let its : (get_or (args_of c) j e).id.now ≡ (get_or tool_rules j (rule_of e)).id =
       ap (λ r. r.id) (rule_at j e lt) in
       let named : bytes_eq (get_or tool_rules j (rule_of e)).id name ≡ true = rw (its, id_is d) at same in
-      option.only j (rule_of e) (omega (arith, count, lt)) named
+      only_has tool_rules name place j (rule_of e) option.only
+      (subst (λ n. j < n) (sym (length-map (args_of c) rule_of) ∙ ap length rules_are) lt) named
 
   -- an argument of the built command with this id has the option's parser
   parser_is : (j : ℕ) (x : Arg) → j < length (args_of p.built) → get_or (args_of p.built) j x ≡ x
@@ -180,7 +162,7 @@ module _ (name : List ℕ) (place low high : ℕ) (option : IsOption name place 
   no_group e key passes group = known (passes.3 group)
     where
       known : IsKnownGroup p.built e.0.now → ⊥
-      known (inl empty) = option.some (sym ((bytes_eq-Decides e.0.now name).0 key) ∙ empty)
+      known (inl empty) = option.named.0 (sym ((bytes_eq-Decides e.0.now name).0 key) ∙ empty)
       known (inr some) = let none : 0 < 0 = rw no_groups at some in omega arith
 
   in_range : (text : List ℕ) → IsSignedIn (pos low) (pos high) text

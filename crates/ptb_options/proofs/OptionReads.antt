@@ -5,7 +5,8 @@ use Rattle.std.proofs.Common.{Option, Some, None, Result, Ok, Err, [], ◌∷◌
 use Rattle.std.specs.Prelude.{◌&&◌, if◌then◌else◌, option_and_then, option_map, find, nat_lt}
 use Rattle.std.specs.Result.{result_ok}
 use Rattle.std.specs.Str.{all_ascii_digits}
-use Rattle.std.specs.Str.Parse.{ParsesUnsigned, digits_value, without_leading_plus}
+use Rattle.std.specs.Str.Parse.{ExplainsUnsignedError, HasUnsignedDigitsIfOk, ParsesUnsigned}
+use Rattle.std.specs.Str.Parse.{digits_value, without_leading_plus}
 use Rattle.std.proofs.lemmas.Bool.{lt-ltb, ltb-true, false≢true}
 use Rattle.std.proofs.lemmas.Str.Parse.{IsNumeralModel, numerals_by_value, tells_all_ascii_digits}
 use Rattle.clap.specs.Words.{ReadsOne, first_of, first_value, found_of, matched_of, one_text}
@@ -62,7 +63,7 @@ module _ (bits : ℕ) (text : List ℕ) where
   number_in-reads = reads_by_tests _ _ _ refl refl refl
 
 -- what `get_one` gives at such a type
-pub number_of-get_one : (E : Type 0) (G : List ℕ → Result ℕ E → Type 0) (m : ArgMatches) (bits : ℕ) (id : List ℕ)
+number_of-get_one : (E : Type 0) (G : List ℕ → Result ℕ E → Type 0) (m : ArgMatches) (bits : ℕ) (id : List ℕ)
     (r : Option ℕ)
     → ((text : List ℕ) (x : Result ℕ E) → G text x → ParsesUnsigned bits 10 text x)
     → (one_text (found_of m) id ≡ None → r ≡ None)
@@ -79,6 +80,16 @@ number_of-get_one E G m bits id r parses none some =
         → r ≡ option_and_then (number_in bits) (one_text (found_of m) id)
     go None e = rw e (none e)
     go (Some text) e = rw e (read text r (some text e))
+
+-- and at an unsigned type
+pub number_of-unsigned : (m : ArgMatches) (bits : ℕ) (id : List ℕ) (r : Option ℕ)
+    → (one_text (found_of m) id ≡ None → r ≡ None)
+    → ((text : List ℕ) → one_text (found_of m) id ≡ Some text → ReadsOne (λ word x. ParsesUnsigned bits 10 word x
+    × ExplainsUnsignedError 10 word x × HasUnsignedDigitsIfOk word x) text r)
+    → r ≡ number_of bits id (entries_of m)
+number_of-unsigned m bits id r none some =
+    number_of-get_one _ (λ word x. ParsesUnsigned bits 10 word x × ExplainsUnsignedError 10 word x
+    × HasUnsignedDigitsIfOk word x) m bits id r (λ text x parses. parses.0) none some
 
 -- what `get_str` gives
 pub first_of-get_str : (m : ArgMatches) (id : List ℕ) (r : Option (Bor (List ℕ)))

@@ -1,14 +1,13 @@
 -- This file answers what is left to prove of `parse_items`.
-use Rattle.std.proofs.Common.{◌≡◌, ◌∙◌, ap, sym, map, Option, Some, None, lit<, [], ◌∷◌, ◌++◌}
+use Rattle.std.proofs.Common.{◌≡◌, ◌∙◌, ap, sym, map, Option, Some, None, [], ◌∷◌, ◌++◌}
 use Rattle.std.specs.Result.{result_ok}
-use Rattle.std.specs.Str.Iter.{split_text, split_has_more, split_pattern}
 use Rattle.std.proofs.lemmas.List.{map-append}
 use Rattle.std.proofs.lemmas.List.Elements.{All-push}
-use Rattle.std.proofs.lemmas.Iterator.Splits.{YieldsList-from_str_split}
 use Rattle.std.proofs.lemmas.Iterator.Consumers.{YieldsList-turn, YieldsList-end}
 use Rattle.ptb_options.specs.AnswerLists.{IsItem, SpellsItem}
 use Rattle.ptb_options.specs.declared.usage.UsageFault.TheVariants.{Memory}
 use Rattle.ptb_options.proofs.AnswerTexts.{list_of_words, word_of_items, more_words}
+use Rattle.ptb_options.proofs.ItemWords.{words_of}
 use Rattle.ptb_options.proofs.ListReturns.{memory_is_bad, none_is_items, read_is_bad}
 use Rattle.ptb_options.proofs.ListReturns.{read_is_memory, refused_as_list, refused_is_read, some_text}
 use Rattle.ptb_options.proofs.ListReturns.{word_refused_as_list}
@@ -46,10 +45,9 @@ returns-in_err-item g c = record {
   ok = refused_is_read _ c.from_residual.result _ c.from_residual.ensures.1;
   bad = λ bad items spells.
       let text = c.args.text.now in
-      let same = c.into_iter-word-iterator.ensures.into_iter_gives in
       let split = c.split-word-items.ensures in
-      let words = YieldsList-from_str_split 44 text (lit< tt) (ap split_text same ∙ split.text)
-      (ap split_has_more same ∙ split.has_more) (ap split_pattern same ∙ split.pattern) in
+      let words = words_of text c.into_iter-word-iterator.ensures.into_iter_gives split.text split.has_more
+      split.pattern in
       let turn = YieldsList-turn words c.loop-word.yielded _ c.loop-word.yielded_by _ _ c.in-Some.word c.in-Some.is
       c.next.ensures.steps in
       let some = some_text text c.eq.result c.eq.ensures c.if-eq.false in
@@ -73,10 +71,9 @@ pub returns : goal.returns
 returns g c = record {
   ok =
       let text = c.args.text.now in
-      let same = c.into_iter-word-iterator.ensures.into_iter_gives in
       let split = c.split-word-items.ensures in
-      let words = YieldsList-from_str_split 44 text (lit< tt) (ap split_text same ∙ split.text)
-      (ap split_has_more same ∙ split.has_more) (ap split_pattern same ∙ split.pattern) in
+      let words = words_of text c.into_iter-word-iterator.ensures.into_iter_gives split.text split.has_more
+      split.pattern in
       let all = YieldsList-end words c.loop-word.yielded _ c.loop-word.yielded_by _ _ c.in-None.is
       c.next.ensures.steps in
       list_of_words text (map g.T.ListItem.marked c.loop-word.items.items) c.loop-word.invariant.each

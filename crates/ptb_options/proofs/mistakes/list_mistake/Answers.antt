@@ -1,24 +1,32 @@
 -- This file answers what is left to prove of `list_mistake`.
-use Rattle.std.proofs.Common.{◌∙◌, ap, arith, lit<, length-append}
+use Rattle.std.proofs.Common.{◌≡◌, ◌∙◌, ap, arith, length-append}
 use Rattle.std.specs.Prelude.{◌==◌, ◌∷◌, []}
-use Rattle.std.specs.Str.Iter.{split_text, split_has_more, split_pattern}
+use Rattle.std.specs.List.{slice_split}
+use Rattle.std.specs.Str.Pattern.{FindsChar}
+use Rattle.std.specs.Str.Iter.{split_steps}
+use Rattle.std.proofs.lemmas.Iterator.{YieldsList}
 use Rattle.std.proofs.lemmas.List.Splits.{length-slice_split}
 use Rattle.std.proofs.lemmas.List.Sums.{count_by-le-length}
-use Rattle.std.proofs.lemmas.Iterator.Splits.{YieldsList-from_str_split}
 use Rattle.std.proofs.lemmas.Iterator.Consumers.{YieldsList-end, YieldsList-so_far, YieldsList-turn}
+use Rattle.ptb_options.proofs.ItemWords.{words_of}
 use Rattle.ptb_options.proofs.ListFaults.{items_more, list_of_items, mistake_at, none_is_list_of}
 use Rattle.ptb_options.proofs.ListReturns.{none_spelled, some_text}
 use Rattle.ptb_options.proofs.mistakes.list_mistake.Goals as goal
+use Rattle.ptb_options.proofs.mistakes.list_mistake.Goals.{After-next}
+
+-- the words of the text, one after another
+words : (c : After-next)
+    → YieldsList (split_steps FindsChar (λ a b. b ≡ a)) (λ x. x.now) c.into_iter-word-iterator.result
+    (slice_split (λ b. b == 44) c.args.text.now)
+words c =
+    let split = c.split-word-items.ensures in
+    words_of c.args.text.now c.into_iter-word-iterator.ensures.into_iter_gives split.text split.has_more split.pattern
 
 pub overflow_add-item : goal.overflow_add-item
 overflow_add-item c =
     let text = c.args.text.now in
-    let same = c.into_iter-word-iterator.ensures.into_iter_gives in
-    let split = c.split-word-items.ensures in
-    let words = YieldsList-from_str_split 44 text (lit< tt) (ap split_text same ∙ split.text)
-    (ap split_has_more same ∙ split.has_more) (ap split_pattern same ∙ split.pattern) in
-    let turn = YieldsList-turn words c.loop-word.yielded _ c.loop-word.yielded_by _ _ c.in-Some.word c.in-Some.is
-    c.next.ensures.steps in
+    let turn = YieldsList-turn (words (goal.at.overflow_add-item c).After-next) c.loop-word.yielded _
+    c.loop-word.yielded_by _ _ c.in-Some.word c.in-Some.is c.next.ensures.steps in
     let all = length-slice_split (λ b. b == 44) text in
     let few = count_by-le-length (λ b. b == 44) text in
     omega (arith, turn.0, all, few, c.loop-word.invariant.counted)
@@ -38,23 +46,16 @@ loop-word-preserved c = record {
 pub returns-in-Some-item_fault-clause-some : goal.returns-in-Some-item_fault-clause-some
 returns-in-Some-item_fault-clause-some c =
     let text = c.args.text.now in
-    let same = c.into_iter-word-iterator.ensures.into_iter_gives in
-    let split = c.split-word-items.ensures in
-    let words = YieldsList-from_str_split 44 text (lit< tt) (ap split_text same ∙ split.text)
-    (ap split_has_more same ∙ split.has_more) (ap split_pattern same ∙ split.pattern) in
-    let turn = YieldsList-turn words c.loop-word.yielded _ c.loop-word.yielded_by _ _ c.in-Some.word c.in-Some.is
+    let all = words (goal.at.returns-in-Some-item_fault-clause-some c).After-next in
+    let turn = YieldsList-turn all c.loop-word.yielded _ c.loop-word.yielded_by _ _ c.in-Some.word c.in-Some.is
     c.next.ensures.steps in
-    let so_far = YieldsList-so_far words c.loop-word.yielded _ c.loop-word.yielded_by in
+    let so_far = YieldsList-so_far all c.loop-word.yielded _ c.loop-word.yielded_by in
     mistake_at c.args.bounds text c.loop-word.yielded c.in-Some.word c.loop-word.item c.in-Some-item_fault.fault
     (some_text text c.eq.result c.eq.ensures c.if-eq.false)
     so_far turn.0 turn.1 c.loop-word.invariant.items c.loop-word.invariant.counted c.in-Some-item_fault.ensures.some
 
 pub returns-clause-none : goal.returns-clause-none
 returns-clause-none c _ =
-    let text = c.args.text.now in
-    let same = c.into_iter-word-iterator.ensures.into_iter_gives in
-    let split = c.split-word-items.ensures in
-    let words = YieldsList-from_str_split 44 text (lit< tt) (ap split_text same ∙ split.text)
-    (ap split_has_more same ∙ split.has_more) (ap split_pattern same ∙ split.pattern) in
-    let all = YieldsList-end words c.loop-word.yielded _ c.loop-word.yielded_by _ _ c.in-None.is c.next.ensures.steps in
-    list_of_items c.args.bounds text (rw (← all.0) c.loop-word.invariant.items)
+    let all = YieldsList-end (words (goal.at.returns-clause-none c).After-next) c.loop-word.yielded _
+    c.loop-word.yielded_by _ _ c.in-None.is c.next.ensures.steps in
+    list_of_items c.args.bounds c.args.text.now (rw (← all.0) c.loop-word.invariant.items)
