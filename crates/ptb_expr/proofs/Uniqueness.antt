@@ -11,8 +11,8 @@ use Rattle.ptb_expr.specs.declared.fault.FaultKind.TheVariants.{How}
 use Rattle.ptb_expr.specs.declared.operator.Operator.{Operator}
 use Rattle.ptb_expr.specs.Operators.{product_operator, sum_operator, comparison}
 use Rattle.ptb_expr.specs.Tree.{Tree, Num, Var, Size, Elem, Rnd, Abs, Neg, Bin, Bad, Unclosed}
-use Rattle.ptb_expr.specs.Reading.{Reading, Whole, Malformed, node_over, missing_part, more, paren}
-use Rattle.ptb_expr.specs.Reading.{variable_or, variable, plain, factor, product, first_product}
+use Rattle.ptb_expr.specs.Reading.{Reading, Whole, Malformed, after, itself, node_over, missing_part, more}
+use Rattle.ptb_expr.specs.Reading.{paren, variable_or, variable, plain, factor, product, first_product}
 use Rattle.ptb_expr.specs.Reading.{sum, expr_with, expr}
 use Rattle.ptb_expr.specs.Spells.{Part, Expr, Sum, First, MoreSum, Product, MoreProduct, Factor}
 use Rattle.ptb_expr.specs.Spells.{Variable, Paren, Spells}
@@ -58,14 +58,10 @@ module _ (t : List ℕ) (within : ℕ → Reading Tree) where
   unfolding expr_with
   expr_malformed i x d = rw (sym d) refl
 
-  sum_whole : (i j : ℕ) (x : Tree) → Whole x j ≡ first_product t within i
-      → more (sum_operator t) (product t within) (length t) x j ≡ sum t within i
+  sum_from : (i : ℕ) (r : Reading Tree) → r ≡ first_product t within i
+      → after r itself (more (sum_operator t) (product t within) (length t)) ≡ sum t within i
   unfolding sum
-  sum_whole i j x d = rw (sym d) refl
-
-  sum_malformed : (i : ℕ) (x : Tree) → Malformed x ≡ first_product t within i → Malformed x ≡ sum t within i
-  unfolding sum
-  sum_malformed i x d = rw (sym d) refl
+  sum_from i r d = rw (sym d) refl
 
   first_minus : (i j : ℕ) → token_at 45 t i ≡ Some j → node_over Neg j (product t within j) ≡ first_product t within i
   unfolding first_product
@@ -81,14 +77,10 @@ module _ (t : List ℕ) (within : ℕ → Reading Tree) where
   unfolding first_product
   first_plain i e f = rw (e, f) refl
 
-  product_whole : (i j : ℕ) (x : Tree) → Whole x j ≡ factor t within i
-      → more (product_operator t) (factor t within) (length t) x j ≡ product t within i
+  product_from : (i : ℕ) (r : Reading Tree) → r ≡ factor t within i
+      → after r itself (more (product_operator t) (factor t within) (length t)) ≡ product t within i
   unfolding product
-  product_whole i j x d = rw (sym d) refl
-
-  product_malformed : (i : ℕ) (x : Tree) → Malformed x ≡ factor t within i → Malformed x ≡ product t within i
-  unfolding product
-  product_malformed i x d = rw (sym d) refl
+  product_from i r d = rw (sym d) refl
 
   factor_rnd : (i j : ℕ) → word_at Functions t i ≡ Some (RndKw, j)
       → node_over Rnd j (paren t within j) ≡ factor t within i
@@ -218,9 +210,8 @@ module _ (laws : FindingLaws) (t : List ℕ) where
   is_read part i r (spells.sum {j = j} {x = x} d h) = λ n m p q.
       let a : rest laws t j < rest laws t i = falls laws t i j (ahead laws t First i (Whole x j) d) in
       is_read (MoreSum x) j r h n (length t) (omega arith) (omega arith)
-      ∙ sum_whole t (expr t n) i j x (is_read First i (Whole x j) d n m p q)
-  is_read part i r (spells.first_malformed {x = x} d) =
-      λ n m p q. sum_malformed t (expr t n) i x (is_read First i (Malformed x) d n m p q)
+      ∙ sum_from t (expr t n) i (Whole x j) (is_read First i (Whole x j) d n m p q)
+  is_read part i r (spells.first_malformed d) = λ n m p q. sum_from t (expr t n) i _ (is_read First i _ d n m p q)
   is_read part i r (spells.minus_sign {j = j} {r = s} e h) = λ n m p q.
       let a : rest laws t j < rest laws t i = falls laws t i j (laws.token 45 t i j e) in
       ap (node_over Neg j) (is_read Product j s h n m (omega arith) (omega arith)) ∙ first_minus t (expr t n) i j e
@@ -242,9 +233,9 @@ module _ (laws : FindingLaws) (t : List ℕ) where
   is_read part i r (spells.product {j = j} {x = x} d h) = λ n m p q.
       let a : rest laws t j < rest laws t i = falls laws t i j (ahead laws t Factor i (Whole x j) d) in
       is_read (MoreProduct x) j r h n (length t) (omega arith) (omega arith)
-      ∙ product_whole t (expr t n) i j x (is_read Factor i (Whole x j) d n m p q)
-  is_read part i r (spells.first_factor_malformed {x = x} d) =
-      λ n m p q. product_malformed t (expr t n) i x (is_read Factor i (Malformed x) d n m p q)
+      ∙ product_from t (expr t n) i (Whole x j) (is_read Factor i (Whole x j) d n m p q)
+  is_read part i r (spells.first_factor_malformed d) =
+      λ n m p q. product_from t (expr t n) i _ (is_read Factor i _ d n m p q)
   is_read part i r (spells.product_end {x = x} e) =
       λ n m p q. sym (more_end (product_operator t) (factor t (expr t n)) m x i e)
   is_read part i r (spells.product_more {k = k} {l = l} {x = x} {y = y} {op = op} e d h) = λ n m p q.
