@@ -457,6 +457,11 @@ slice_range-none xs ys i j ordered inside none =
 pub slice_range-read : (n : ℕ) (xs : List ℕ) → slice_range xs 0 n ≡ take n xs
 slice_range-read n xs = ap (λ k. take k xs) (let e : n - 0 ≡ n = omega arith in e)
 
+-- a range has the bytes between its places
+pub range_size : (xs : List ℕ) (i j : ℕ) → j ≤ length xs → i ≤ j → length (slice_range xs i j) ≡ j - i
+range_size xs i j inside ordered =
+    omega (arith, length-take (j - i) (drop i xs), length-drop i xs, inside, ordered)
+
 -- a range is its first bytes and the range after them
 pub slice_range-front : (xs : List ℕ) (i j n : ℕ) → i + n ≤ j
     → slice_range xs i j ≡ take n (slice_range xs i j) ++ slice_range xs (i + n) j

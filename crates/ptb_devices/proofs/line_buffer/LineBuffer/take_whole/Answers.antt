@@ -6,7 +6,7 @@ use Rattle.std.specs.Prelude.{IsSome}
 use Rattle.ptb_devices.specs.CutLines.{IsLine}
 use Rattle.ptb_devices.specs.Inputs.{InputState}
 use Rattle.ptb_devices.proofs.GivenLines.{true_or_false}
-use Rattle.ptb_devices.proofs.ContinuedReads.{slice_range-front}
+use Rattle.ptb_devices.proofs.ContinuedReads.{range_size, slice_range-front}
 use Rattle.ptb_devices.proofs.line_buffer.LineBuffer.take_whole.Goals as goal
 
 none_if : (p : Option (List ℕ)) → (IsSome p → ⊥) → p ≡ None
@@ -15,38 +15,32 @@ none_if (Some l) h = absurd (h refl)
 
 pub returns : goal.returns
 returns c =
-    let items = c.self.inside.bytes in
-    let from = c.self.inside.from in
-    let to = c.self.inside.to in
+    let s = c.self.inside in
     let count = c.in_ok-count.count in
-    let waiting = slice_range items from to in
+    let waiting = slice_range s.bytes s.from s.to in
     let bytes : c.between.result.now ≡ waiting = c.between.ensures in
-    let long : length waiting ≡ to - from = omega (
-      arith,
-      length-take (to - from) (drop from items),
-      length-drop from items,
-      c.self.invariant.in_buffer,
-      c.self.invariant.ordered,
-    ) in
-    let size : count < to - from = omega (arith, c.in_ok-count.ensures.within, ap length bytes, long) in
+    let long = range_size s.bytes s.from s.to c.self.invariant.in_buffer c.self.invariant.ordered in
+    let size : count < s.to - s.from = omega (arith, c.in_ok-count.ensures.within, ap length bytes, long) in
     let line : c.between-2.result.now ≡ take count waiting =
-    c.between-2.ensures ∙ ap (λ n. take n (drop from items)) (let e : (from + count) - from ≡ count = omega arith in
-    e) ∙ sym (take-take count (to - from) (drop from items) (omega (arith, size))) in
-    let past : from + (count + 1) ≡ from + count + 1 = omega arith in (
+    c.between-2.ensures ∙ ap (λ n. take n (drop s.from s.bytes)) (let e : (s.from + count) - s.from ≡ count = omega
+    arith in
+    e) ∙ sym (take-take count (s.to - s.from) (drop s.from s.bytes) (omega (arith, size))) in
+    let past : s.from + (count + 1) ≡ s.from + count + 1 = omega arith in (
       (
         refl,
         λ _. tt,
         record {
           front = take (count + 1) waiting;
-          whole = sym (ap (λ s. s.waiting) c.self.view_is)
-              ∙ slice_range-front items from to (count + 1) (omega (arith, size, c.self.invariant.ordered))
-              ∙ ap (λ n. take (count + 1) waiting ++ slice_range items n to) past;
+          whole = sym (ap (λ i. i.waiting) c.self.view_is)
+              ∙ slice_range-front s.bytes s.from s.to (count + 1) (omega (arith, size, c.self.invariant.ordered))
+              ∙ ap (λ n. take (count + 1) waiting ++ slice_range s.bytes n s.to) past;
           some = omega (arith, length-take (count + 1) waiting, long, size);
-          unbegun = sym (ap (λ s. s.piece) c.self.view_is)
+          unbegun = sym (ap (λ i. i.piece) c.self.view_is)
               ∙ none_if c.self.inside.cutter (λ h. true_or_false c.if-has_begun.false (c.has_begun.ensures.1 h));
           cut = subst (λ l. IsLine l (take (count + 1) waiting)) (sym line)
               (subst (λ l. IsLine (take count l) (take (count + 1) l)) bytes c.in_ok-count.ensures.line);
-          rest = ap (λ (s : InputState). record s { waiting = slice_range items (from + count + 1) to }) c.self.view_is;
+          rest = ap (λ (i : InputState). record i { waiting = slice_range s.bytes (s.from + count + 1) s.to })
+              c.self.view_is;
         },
       ),
       record {
