@@ -21,7 +21,7 @@ use Rattle.ptb_machine.specs.Breakage.{Breakage}
 use Rattle.ptb_machine.specs.Breakage as errors
 use Rattle.ptb_machine.specs.Actions.{Ends, Halts, goes_on, show}
 use Rattle.std.specs.Fmt.{signed_decimal}
-use Rattle.ptb_machine.specs.Act.{is_fresh, width_of, width_limit, padded_decimal}
+use Rattle.ptb_machine.specs.Act.{is_fresh, width_of, width_limit}
 use Rattle.std.specs.Int.{FitsUnsignedBits}
 use Rattle.ptb_expr.specs.declared.fault.FaultKind.TheVariants.{How}
 use Rattle.ptb_machine.specs.Effects.{action_state}
