@@ -2,6 +2,7 @@
 -- Main lemma: `commands_advance`.
 use Rattle.std.proofs.Common.{◌≡◌, ℕ, zero, suc, Bool, true, false, cond, List, [], length, Option}
 use Rattle.std.proofs.Common.{Some, None, refl, subst, arith}
+use Rattle.ptb_text.specs.declared.word.Table.{Table}
 use Rattle.ptb_text.specs.declared.word.Table.TheVariants.{Commands, To, Step}
 use Rattle.ptb_text.specs.declared.word.Word.{Word}
 use Rattle.ptb_text.specs.declared.word.Word.TheVariants.{NextKw, LetKw, IfKw, GotoKw, GosubKw}
@@ -118,19 +119,15 @@ module _ (t : List ℕ) where
   items_on round on i = within_on (suc (length t)) round on i
 
 module _ (finding : FindingLaws) (spelling : SpellingLaws) (t : List ℕ) where
+  tree_ends : (i : ℕ) (r : Reading Tree) → ((x : Tree) (j : ℕ) → r ≡ Whole x j → LiesAhead t i j) → EndsAhead t i r
+  tree_ends i (Whole x j) ahead = ahead x j refl
+  tree_ends i (Malformed x) ahead = tt
+
   expression_ends : (i : ℕ) → EndsAhead t i (expression t i)
-  expression_ends i = by_reading (expression t i) refl
-    where
-      by_reading : (r : Reading Tree) → expression t i ≡ r → EndsAhead t i r
-      by_reading (Whole x j) e = spelling.expression_ahead t i j x e
-      by_reading (Malformed x) e = tt
+  expression_ends i = tree_ends i (expression t i) (λ x j e. spelling.expression_ahead t i j x e)
 
   variable_ends : (i : ℕ) → EndsAhead t i (variable_tree t i)
-  variable_ends i = by_reading (variable_tree t i) refl
-    where
-      by_reading : (r : Reading Tree) → variable_tree t i ≡ r → EndsAhead t i r
-      by_reading (Whole x j) e = spelling.variable_ahead t i j x e
-      by_reading (Malformed x) e = tt
+  variable_ends i = tree_ends i (variable_tree t i) (λ x j e. spelling.variable_ahead t i j x e)
 
   expression_after : (i j : ℕ) → LiesAhead t i j → EndsAhead t i (expression t j)
   expression_after i j a = following t i j (expression t j) a (expression_ends j)
@@ -260,23 +257,27 @@ module _ (finding : FindingLaws) (spelling : SpellingLaws) (t : List ℕ) where
   expression_on : (i j : ℕ) → LiesOn t i j → EndsOn t i (expression t j)
   expression_on i j a = on_after t i j (expression t j) a (ends_on t j (expression t j) (expression_ends j))
 
+  -- what there is after a word, or where it is missing
+  word_on : (table : Table) (i : ℕ) (f : Option (Word × ℕ) → Reading (List Part))
+      → ((w : Word × ℕ) → LiesAhead t i w.1 → EndsOn t i (f (Some w))) → EndsOn t i (f None)
+      → EndsOn t i (f (word_at table t i))
+  word_on table i f there missing = by_word (word_at table t i) refl
+    where
+      by_word : (o : Option (Word × ℕ)) → word_at table t i ≡ o → EndsOn t i (f o)
+      by_word (Some w) e = there w (finding.word table t i w.0 w.1 e)
+      by_word None e = missing
+
   step_on : (i : ℕ) → EndsOn t i (step_parts t i)
   unfolding step_parts
-  step_on i = by_word (word_at Step t i) refl
-    where
-      by_word : (o : Option (Word × ℕ)) → word_at Step t i ≡ o → EndsOn t i (step_by t i o)
-      by_word (Some w) e = part_and_on Operand i (expression t w.1) (end_check t)
-          (expression_on i w.1 (on_ahead t i w.1 (finding.word Step t i w.0 w.1 e))) end_on
-      by_word None e = in_front_on t _ i (end_check t i) (end_on i)
+  step_on i = word_on Step i (step_by t i)
+      (λ w a. part_and_on Operand i (expression t w.1) (end_check t) (expression_on i w.1 (on_ahead t i w.1 a)) end_on)
+      (in_front_on t _ i (end_check t i) (end_on i))
 
   limit_on : (i : ℕ) → EndsOn t i (limit_parts t i)
   unfolding limit_parts
-  limit_on i = by_word (word_at To t i) refl
-    where
-      by_word : (o : Option (Word × ℕ)) → word_at To t i ≡ o → EndsOn t i (limit_by t i o)
-      by_word (Some w) e = part_and_on Operand i (expression t w.1) (step_parts t)
-          (expression_on i w.1 (on_ahead t i w.1 (finding.word To t i w.0 w.1 e))) step_on
-      by_word None e = tt
+  limit_on i = word_on To i (limit_by t i)
+      (λ w a. part_and_on Operand i (expression t w.1) (step_parts t) (expression_on i w.1 (on_ahead t i w.1 a)) step_on)
+      tt
 
   first_on : (x i : ℕ) → EndsOn t i (first_parts t x i (token_at 61 t i))
   first_on x i = by_equals (token_at 61 t i) refl
@@ -286,25 +287,27 @@ module _ (finding : FindingLaws) (spelling : SpellingLaws) (t : List ℕ) where
           (expression_on i j (on_ahead t i j (finding.token 61 t i j e))) limit_on
       by_equals None e = tt
 
+  -- the same of a letter
+  letter_on : (i : ℕ) (f : Option (ℕ × ℕ) → Reading (List Part))
+      → ((x : ℕ × ℕ) → LiesOn t i x.1 → EndsOn t i (f (Some x))) → EndsOn t i (f None)
+      → EndsOn t i (f (letter_at t i))
+  letter_on i f there missing = by_letter (letter_at t i) refl
+    where
+      by_letter : (o : Option (ℕ × ℕ)) → letter_at t i ≡ o → EndsOn t i (f o)
+      by_letter (Some x) e = there x (on_ahead t i x.1 (finding.letter t i x.0 x.1 e))
+      by_letter None e = missing
+
   for_on : (i : ℕ) → EndsOn t i (for_parts t i)
   unfolding for_parts
-  for_on i = by_letter (letter_at t i) refl
-    where
-      by_letter : (o : Option (ℕ × ℕ)) → letter_at t i ≡ o → EndsOn t i (for_by t i o)
-      by_letter (Some x) e =
-          let r = first_parts t x.0 x.1 (token_at 61 t x.1) in
-          in_front_on t (Letter x.0) i r
-          (on_after t i x.1 r (on_ahead t i x.1 (finding.letter t i x.0 x.1 e)) (first_on x.0 x.1))
-      by_letter None e = tt
+  for_on i = letter_on i (for_by t i)
+      (λ x a. let r = first_parts t x.0 x.1 (token_at 61 t x.1) in
+      in_front_on t (Letter x.0) i r (on_after t i x.1 r a (first_on x.0 x.1)))
+      tt
 
   next_on : (i : ℕ) → EndsOn t i (next_parts t i)
   unfolding next_parts
-  next_on i = by_letter (letter_at t i) refl
-    where
-      by_letter : (o : Option (ℕ × ℕ)) → letter_at t i ≡ o → EndsOn t i (next_by t i o)
-      by_letter (Some x) e = in_front_on t (Letter x.0) i (end_check t x.1)
-          (on_after t i x.1 (end_check t x.1) (on_ahead t i x.1 (finding.letter t i x.0 x.1 e)) (end_on x.1))
-      by_letter None e = tt
+  next_on i = letter_on i (next_by t i)
+      (λ x a. in_front_on t (Letter x.0) i (end_check t x.1) (on_after t i x.1 (end_check t x.1) a (end_on x.1))) tt
 
   print_on : (i : ℕ) → EndsOn t i (print_parts t i)
   unfolding print_parts

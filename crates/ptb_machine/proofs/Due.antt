@@ -1,6 +1,6 @@
 -- This file proves what is left of bytes that are gathered, and not shown yet, where a part of a command stops.
 -- Main lemma: `stops_due`.
-use Rattle.std.proofs.Common.{◌≡◌, Bool, true, false, List, [], ◌∷◌, ◌++◌, ℕ, Result, Err, refl}
+use Rattle.std.proofs.Common.{◌≡◌, Bool, true, false, cond, List, [], ◌∷◌, ◌++◌, ℕ, Result, Err, refl}
 use Rattle.std.proofs.Common.{sym, ap, subst, ◌∙◌, append-nil}
 use Rattle.ptb_answers.specs.Outcome.{Answers, Outcome}
 use Rattle.ptb_machine.specs.declared.stop.Stop.{Stop}
@@ -18,25 +18,25 @@ after_is shown (b ∷ due) = refl
 abbrev is_shown_at : Stop → Bool
 is_shown_at e = still_shows {X = Unit {0}} (Err e)
 
+none_either_way : (b : Bool) → ◌≡◌ {A = List ℕ} (cond b [] []) []
+none_either_way true = refl
+none_either_way false = refl
+
+due_is : (due : List ℕ) (e : Stop) → still_due due e ≡ cond (is_shown_at e) due []
+due_is [] e = sym (none_either_way (is_shown_at e))
+due_is (b ∷ due) (stops.Fault f) = refl
+due_is (b ∷ due) stops.Ended = refl
+due_is (b ∷ due) stops.NoInput = refl
+due_is (b ∷ due) (stops.Pause z) = refl
+due_is (b ∷ due) stops.Memory = refl
+due_is (b ∷ due) stops.Unread = refl
+due_is (b ∷ due) stops.Unwritten = refl
+
 pub due_stays : (due : List ℕ) (e : Stop) → is_shown_at e ≡ true → still_due due e ≡ due
-due_stays [] e h = refl
-due_stays (b ∷ due) (stops.Fault f) h = refl
-due_stays (b ∷ due) stops.Ended h = refl
-due_stays (b ∷ due) stops.NoInput h = cc
-due_stays (b ∷ due) (stops.Pause z) h = refl
-due_stays (b ∷ due) stops.Memory h = cc
-due_stays (b ∷ due) stops.Unread h = cc
-due_stays (b ∷ due) stops.Unwritten h = cc
+due_stays due e h = due_is due e ∙ ap (λ (k : Bool). cond k due []) h
 
 pub due_goes : (due : List ℕ) (e : Stop) → is_shown_at e ≡ false → still_due due e ≡ []
-due_goes [] e h = refl
-due_goes (b ∷ due) (stops.Fault f) h = cc
-due_goes (b ∷ due) stops.Ended h = cc
-due_goes (b ∷ due) stops.NoInput h = refl
-due_goes (b ∷ due) (stops.Pause z) h = cc
-due_goes (b ∷ due) stops.Memory h = refl
-due_goes (b ∷ due) stops.Unread h = refl
-due_goes (b ∷ due) stops.Unwritten h = refl
+due_goes due e h = due_is due e ∙ ap (λ (k : Bool). cond k due []) h
 
 -- what is dropped is left to do
 pub refines_part_dropped : {A : Type 0} {o n : Trace} {f g : State → Answers → Outcome A State} → RefinesPart o n f g

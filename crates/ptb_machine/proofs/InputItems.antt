@@ -696,11 +696,3 @@ pub none_given : {A : Type 0} (o : Trace) (f : Action A)
 none_given o f =
     subst (λ (ks : List (List ℕ)). RefinesPart o (record o { devices = record o.devices { given = ks } }) f f)
     (sym (append-nil o.devices.given)) (refines_part_refl o f)
-
--- whoever may refuse a line too refuses answers
-pub answers_too : (refused : Pause → ℤ → Type 0) (unread : DeviceFault → Type 0) (lines : Option (List (List ℕ)))
-    (r : Refusal)
-    → refused_answers refused r → refused_by refused unread lines r
-answers_too refused unread lines (Unanswered pause bound) h = h
-answers_too refused unread lines (Unread fault) h = absurd h
-answers_too refused unread lines NoLine h = absurd h

@@ -19,6 +19,7 @@ pub mod NextPlaces
 pub mod ReadItems
 pub mod InputItems
 pub mod Items
+pub mod ItemLoops
 pub mod Jumps
 pub mod Lasts
 pub mod CommandsLawful

@@ -20,9 +20,10 @@ use Rattle.ptb_machine.specs.Stops.{stop_of_device, Stops, RefinesPartTo, Comes}
 use Rattle.ptb_machine.specs.Traces.{Trace, trace, with_due, still_due, RefinesPart}
 use Rattle.ptb_machine.proofs.Actions.{refines_part_on, stops_unrefused}
 use Rattle.ptb_machine.proofs.Due.{stops_none}
+use Rattle.ptb_machine.proofs.Dispatch.{answers_refused}
 use Rattle.ptb_machine.proofs.InputItems.{with_most, with_given, fewer_left, flush_stops, line_left}
 use Rattle.ptb_machine.proofs.InputItems.{line_asked, take_ask_stops, take_unread, take_dry}
-use Rattle.ptb_machine.proofs.InputItems.{take_instead, answers_too}
+use Rattle.ptb_machine.proofs.InputItems.{take_instead}
 use Rattle.ptb_machine.proofs.MissedLines.{none_more}
 use Rattle.ptb_machine.proofs.PartRefinement.{refines_part_then}
 use Rattle.ptb_machine.proofs.Stops.{comes_err, comes_after, comes_more, stops_after, stops_more}
@@ -54,7 +55,7 @@ module _ (said : List ℕ) (x : Tree) (prompt : List ℕ) {i o : Trace}
       comes_err (refused_by answers unread lines) i n (item_action said x prompt) ok r e is
       (stops_after (refused_by answers unread lines) end was e
       (take_ask_stops said x prompt (refused_by answers unread lines) o end e
-      (stops_more (refused_answers answers) (refused_by answers unread lines) (answers_too answers unread lines) o end
+      (stops_more (refused_answers answers) (refused_by answers unread lines) (answers_refused answers unread lines) o end
       (ask_for said x prompt) e h)))
 
   -- what is gathered before a line is waited for can't be shown
@@ -117,7 +118,7 @@ module _ (said : List ℕ) (x : Tree) (prompt : List ℕ) {i o : Trace}
           comes_after (refused_by answers unread lines) n (λ u. goes_on tt)
           (refines_part_then was
           (take_instead said x prompt most bound at (none_more (λ (z : ℕ). z) line none no_more) choose comes))
-          r (comes_more (refused_answers answers) (refused_by answers unread lines) (answers_too answers unread lines)
+          r (comes_more (refused_answers answers) (refused_by answers unread lines) (answers_refused answers unread lines)
           (with_most most m) n (answer_instead bound at) (λ u. goes_on tt) r h)
 
     -- the source gives a line, and has then given these
@@ -142,7 +143,7 @@ module _ (said : List ℕ) (x : Tree) (prompt : List ℕ) {i o : Trace}
           let end = with_due (still_due n.due e) n in
           comes_err (refused_by answers unread lines) i n (item_action said x prompt) ok r e is
           (stops_after (refused_by answers unread lines) end asked_line e
-          (stops_more (refused_answers answers) (refused_by answers unread lines) (answers_too answers unread lines)
+          (stops_more (refused_answers answers) (refused_by answers unread lines) (answers_refused answers unread lines)
           (with_given given (with_most most m)) end left e h))
 
       -- the line has a value in front, or the item is to be done again

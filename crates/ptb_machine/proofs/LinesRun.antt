@@ -99,6 +99,15 @@ module _ {R W : Type 0} (remaining : R → Option (List ℕ)) (counted failures 
     left_by : j ≡ (line_reader later).now
     left_by = ends gives.same_borrow
 
+    -- it took no more than a source may
+    took_bounded : ConsumesAtMost (remaining i) (remaining j) (input_limit + 1)
+    took_bounded = subst (λ (x : R). ConsumesAtMost (remaining i) (remaining x) (input_limit + 1)) (sym left_by)
+        (takes_at_most _ _ _ _ now lines on)
+
+    given_bounded : GivesAtMost (counted i) (counted j) (input_limit + 1)
+    given_bounded = subst (λ (x : R). GivesAtMost (counted i) (counted x) (input_limit + 1)) (sym left_by)
+        (given_at_most _ _ _ _ now lines on)
+
     -- what is said of the run, whatever lines come after those that it was given
     between : (answers : List (List ℕ) → Answers) → Goes answers → (following : List (List ℕ))
         → (NoneLeft (known_lines now) → following ≡ [])
@@ -189,12 +198,8 @@ module _ {R W : Type 0} (remaining : R → Option (List ℕ)) (counted failures 
             within =
                 subst (λ (x : R). OnOk result (ConsumesAtMost (remaining i) (remaining x) input_limit)) same
                 (where_ok result _ (takes_within _ _ _ _ now lines on none));
-            bounded =
-                subst (λ (x : R). ConsumesAtMost (remaining i) (remaining x) (input_limit + 1)) same
-                (takes_at_most _ _ _ _ now lines on);
-            given =
-                subst (λ (x : R). GivesAtMost (counted i) (counted x) (input_limit + 1)) same
-                (given_at_most _ _ _ _ now lines on);
+            bounded = took_bounded;
+            given = given_bounded;
             unreadable = λ e. absurd (unread e);
             unfailed = λ _. subst (λ (x : R). failures x ≡ failures i) same (reads_unfailed _ _ _ _ now lines on none);
             failed_or_given = λ e. absurd (unread e);
@@ -255,12 +260,8 @@ module _ {R W : Type 0} (remaining : R → Option (List ℕ)) (counted failures 
             memory = λ answers goes e. absurd (let clash : runs.Read ≡ runs.Memory = cc in cc);
             reads = record {
               within = tt;
-              bounded =
-                  subst (λ (x : R). ConsumesAtMost (remaining i) (remaining x) (input_limit + 1)) same
-                  (takes_at_most _ _ _ _ now lines on);
-              given =
-                  subst (λ (x : R). GivesAtMost (counted i) (counted x) (input_limit + 1)) same
-                  (given_at_most _ _ _ _ now lines on);
+              bounded = took_bounded;
+              given = given_bounded;
               unreadable =
                   λ _. subst (λ (x : R). IsUnreadable (remaining i) (failures i) (failures x)) same
                   (is_unreadable _ _ _ _ now lines on fault is);

@@ -21,16 +21,28 @@ head_last xs os first last there view =
     sym (ap (λ (ys : List Open). get_or ys 0 first) view) ∙ get_or-reverse xs 0 first (omega (arith, within))
     ∙ ap (λ (k : ℕ). get_or xs k first) (omega arith) ∙ get_or_from_slice_get xs (length xs - 1) last first there
 
-pub newest_last : (xs os : List Open) (last : Open) → slice_get xs (length xs - 1) ≡ Some last → reverse xs ≡ os
-    → newest_loop os ≡ newest_loop (last ∷ [])
-newest_last xs [] last there view =
+-- what depends on the newest item alone is known from the last that is kept
+first_last : {X : Type 0} (f : List Open → X) → ((o : Open) (os : List Open) → f (o ∷ os) ≡ f (o ∷ []))
+    → (xs os : List Open) (last : Open) → slice_get xs (length xs - 1) ≡ Some last → reverse xs ≡ os
+    → f os ≡ f (last ∷ [])
+first_last f alone xs [] last there view =
     let within : length xs - 1 < length xs = slice_get_within xs (length xs - 1) last there in
     let none : length xs ≡ 0 = sym (length-reverse xs) ∙ ap (λ (ys : List Open). length ys) view in
     absurd (omega (arith, within, none))
-newest_last xs (opens.Loop m ∷ os) last there view =
-    ap (λ (o : Open). newest_loop (o ∷ [])) (head_last xs os (opens.Loop m) last there view)
-newest_last xs (opens.Call back ∷ os) last there view =
-    ap (λ (o : Open). newest_loop (o ∷ [])) (head_last xs os (opens.Call back) last there view)
+first_last f alone xs (o ∷ os) last there view =
+    alone o os ∙ ap (λ (x : Open). f (x ∷ [])) (head_last xs os o last there view)
+
+newest_alone : (o : Open) (os : List Open) → newest_loop (o ∷ os) ≡ newest_loop (o ∷ [])
+newest_alone (opens.Loop m) os = refl
+newest_alone (opens.Call back) os = refl
+
+return_alone : (o : Open) (os : List Open) → newest_return (o ∷ os) ≡ newest_return (o ∷ [])
+return_alone (opens.Loop m) os = refl
+return_alone (opens.Call back) os = refl
+
+pub newest_last : (xs os : List Open) (last : Open) → slice_get xs (length xs - 1) ≡ Some last → reverse xs ≡ os
+    → newest_loop os ≡ newest_loop (last ∷ [])
+newest_last = first_last newest_loop newest_alone
 
 -- a loop that is the newest becomes the newest as it is
 pub newest_stays : (x : ℕ) (os : List Open) (m : OpenLoop) → Some m ≡ newest_loop os → m.letter ≡ x
@@ -50,14 +62,7 @@ newest_given x old new r closes is =
 
 pub return_last : (xs os : List Open) (last : Open) → slice_get xs (length xs - 1) ≡ Some last → reverse xs ≡ os
     → newest_return os ≡ newest_return (last ∷ [])
-return_last xs [] last there view =
-    let within : length xs - 1 < length xs = slice_get_within xs (length xs - 1) last there in
-    let none : length xs ≡ 0 = sym (length-reverse xs) ∙ ap (λ (ys : List Open). length ys) view in
-    absurd (omega (arith, within, none))
-return_last xs (opens.Loop m ∷ os) last there view =
-    ap (λ (o : Open). newest_return (o ∷ [])) (head_last xs os (opens.Loop m) last there view)
-return_last xs (opens.Call back ∷ os) last there view =
-    ap (λ (o : Open). newest_return (o ∷ [])) (head_last xs os (opens.Call back) last there view)
+return_last = first_last newest_return return_alone
 
 -- a call that becomes the newest is the newest call
 pub call_brought : (old new below : List Open) (back : Location) → new ≡ opens.Call back ∷ below

@@ -4,7 +4,6 @@ use Rattle.std.proofs.Common.{◌≡◌, ℕ, ◌+◌, Bool, true, false, List, 
 use Rattle.std.specs.Prelude.{◌||◌, is_some}
 use Rattle.std.proofs.lemmas.Bool.{false≢true}
 use Rattle.ptb_text.specs.declared.word.Word.{Word}
-use Rattle.ptb_text.specs.declared.word.Word.TheVariants.{NextKw, LetKw, GosubKw, ForKw, InputKw, PrintKw}
 use Rattle.ptb_text.specs.Statements.{Statements}
 use Rattle.ptb_text.specs.Words.{is_over, token_at}
 use Rattle.ptb_expr.specs.Evaluate.{IsWhole}
@@ -19,24 +18,6 @@ use Rattle.ptb_machine.specs.Representation.{PlaceIs, Begun}
 -- the words of the commands after which `;` begins the next one
 pub record ChecksEnd (word : Word) : Type 0 where
   pub next : (t : List ℕ) (e : ℕ) → next_begin word t e ≡ token_at 59 t e
-
-pub print_checks_end : ChecksEnd PrintKw
-print_checks_end = record { next = λ t e. refl }
-
-pub let_checks_end : ChecksEnd LetKw
-let_checks_end = record { next = λ t e. refl }
-
-pub input_checks_end : ChecksEnd InputKw
-input_checks_end = record { next = λ t e. refl }
-
-pub gosub_checks_end : ChecksEnd GosubKw
-gosub_checks_end = record { next = λ t e. refl }
-
-pub for_checks_end : ChecksEnd ForKw
-for_checks_end = record { next = λ t e. refl }
-
-pub next_checks_end : ChecksEnd NextKw
-next_checks_end = record { next = λ t e. refl }
 
 -- ---- rounds of commands
 

@@ -159,15 +159,16 @@ module _ (p : StoredProgram) (rules : Rules) (a : Answers) (refuses : Pause → 
         bytes = subst (Appends old.shown new.shown) (sym (ap (λ r. r.0) all)) h.exchanges.shows.shown;
       }
 
-  -- what was shown up to a question is a beginning
-  shown_before : {z : Pause} → IsUnanswered refused p rules lines before later z
+  -- what was shown before the rest of a play is a beginning
+  part_shown : (failures : ℕ) (x : Exchange) (left : Answers → Outcome Finish (List ℕ))
+      → Plays p rules lines before (with_failures failures later) x left
+      → ((rest : Answers) → Begins x.bytes (played_bytes (left rest)))
       → TakesSome old.shown new.shown (plain p lines rules a).0
-  shown_before h =
-      let begins = h.continues.begins (left_by new.failures h.exchange h.left h.plays).rest in
-      let all : (plain p lines rules a).0
-      ≡ played_bytes (h.left (left_by new.failures h.exchange h.left h.plays).rest) =
-      plain_bytes (play p lines rules a) ∙ ap played_bytes (play_is new.failures h.exchange h.left h.plays) in
-      takes_beginning old.shown new.shown h.exchange.bytes _ h.plays.exchanges.shows.shown (begins.0, all ∙ begins.1)
+  part_shown failures x left h continues =
+      let begins = continues (left_by failures x left h).rest in
+      let all : (plain p lines rules a).0 ≡ played_bytes (left (left_by failures x left h).rest) =
+      plain_bytes (play p lines rules a) ∙ ap played_bytes (play_is failures x left h) in
+      takes_beginning old.shown new.shown x.bytes _ h.exchanges.shows.shown (begins.0, all ∙ begins.1)
 
   -- no answer is left, or it was refused memory
   unanswered : IsUnanswered refused p rules lines before later pauses.Ended
@@ -184,7 +185,7 @@ module _ (p : StoredProgram) (rules : Rules) (a : Answers) (refuses : Pause → 
         record {
           same_borrow = h.plays.exchanges.shows.same_borrow;
           ok = tt;
-          beginning = shown_before h;
+          beginning = part_shown new.failures h.exchange h.left h.plays h.continues.begins;
           failed = λ f. cc;
           memory = λ _. inr (
             (h.bound, r),
@@ -209,12 +210,7 @@ module _ (p : StoredProgram) (rules : Rules) (a : Answers) (refuses : Pause → 
   -- where a device fails, what was shown is a beginning
   begun : {e : Breakage} → IsUnfinished refused p rules lines before later e
       → TakesSome old.shown new.shown (plain p lines rules a).0
-  begun h =
-      let begins = h.continues.begins (left_by old.failures h.exchange h.left h.plays).rest in
-      let all : (plain p lines rules a).0
-      ≡ played_bytes (h.left (left_by old.failures h.exchange h.left h.plays).rest) =
-      plain_bytes (play p lines rules a) ∙ ap played_bytes (play_is old.failures h.exchange h.left h.plays) in
-      takes_beginning old.shown new.shown h.exchange.bytes _ h.plays.exchanges.shows.shown (begins.0, all ∙ begins.1)
+  begun h = part_shown old.failures h.exchange h.left h.plays h.continues.begins
 
   unwritten : RunComes refused p rules following before later (Err runs.Write)
       → IsPlainRun p rules lines a refuses old new (Err runs.Write)

@@ -19,7 +19,7 @@ use Rattle.ptb_machine.specs.Traces.{Trace}
 use Rattle.ptb_machine.specs.Reports.{IsShown}
 use Rattle.ptb_machine.specs.Stops.{UnlessMissed, miss_of}
 use Rattle.ptb_machine.proofs.MissedLines.{miss_unmissed}
-use Rattle.ptb_machine.specs.CommandResults.{reported, IsResultOf}
+use Rattle.ptb_machine.specs.CommandResults.{reported, stopped, IsResultOf}
 use Rattle.ptb_machine.specs.Steps.{step_miss}
 
 -- nothing is shown where it was done, or stopped by s
@@ -31,9 +31,18 @@ result_done o number text done x e =
 
 pub result_stopped : (o : Trace) (number : ℕ) (text : List ℕ) (done : Result (Unit {0}) Stop) (s : Stop)
     (r : Result (Option Ending) RunFault)
-    → IsResultOf o o number text (Err s) r → done ≡ Err s → IsResultOf o o number text done r
-result_stopped o number text done s r is e =
-    subst (λ (y : Result (Unit {0}) Stop). IsResultOf o o number text y r) (sym e) is
+    → ((f : Fault) → s ≡ stops.Fault f → ⊥) → r ≡ stopped s → done ≡ Err s → IsResultOf o o number text done r
+result_stopped o number text done s r other is e =
+    subst (λ (y : Result (Unit {0}) Stop). IsResultOf o o number text y r) (sym e) (silent s other is)
+  where
+    silent : (s : Stop) → ((f : Fault) → s ≡ stops.Fault f → ⊥) → r ≡ stopped s → IsResultOf o o number text (Err s) r
+    silent (stops.Fault f) other is = absurd (other f refl)
+    silent stops.Ended other is = record { is = is; same = refl }
+    silent stops.NoInput other is = record { is = is; same = refl }
+    silent (stops.Pause z) other is = record { is = is; same = refl }
+    silent stops.Memory other is = record { is = is; same = refl }
+    silent stops.Unread other is = record { is = is; same = refl }
+    silent stops.Unwritten other is = record { is = is; same = refl }
 
 -- a fault that was reported, or not
 pub result_reported : (o n : Trace) (number : ℕ) (text : List ℕ) (f : Fault) (done : Result (Unit {0}) Stop)
@@ -60,28 +69,6 @@ reported_over : (kind : FaultKind) (shown : Result (Unit {0}) DeviceFault) → i
 reported_over kind (Ok x) = refl
 reported_over kind (Err x) = refl
 
-result_over : (o n : Trace) (number : ℕ) (text : List ℕ) (done : Result (Unit {0}) Stop)
-    (r : Result (Option Ending) RunFault)
-    → IsResultOf o n number text done r → is_over r ≡ is_err done
-result_over o n number text (Ok x) r is = ap is_over is.is
-result_over o n number text (Err (stops.Fault f)) r is = ap is_over is.is ∙ reported_over f.kind is.shown
-result_over o n number text (Err stops.Ended) r is = ap is_over is.is
-result_over o n number text (Err stops.NoInput) r is = ap is_over is.is
-result_over o n number text (Err (stops.Pause pauses.Ended)) r is = ap is_over is.is
-result_over o n number text (Err (stops.Pause (pauses.OutOfRange k))) r is = ap is_over is.is
-result_over o n number text (Err (stops.Pause pauses.Memory)) r is = ap is_over is.is
-result_over o n number text (Err stops.Memory) r is = ap is_over is.is
-result_over o n number text (Err stops.Unread) r is = ap is_over is.is
-result_over o n number text (Err stops.Unwritten) r is = ap is_over is.is
-
--- it continues where the command was done
-pub result_goes : (o n : Trace) (number : ℕ) (text : List ℕ) (done : Result (Unit {0}) Stop)
-    (r : Result (Option Ending) RunFault)
-    → IsResultOf o n number text done r → (r ≡ Ok None ↔ is_err done ≡ false)
-result_goes o n number text done r is =
-    let same = result_over o n number text done r is in
-    (λ e. sym same ∙ ap is_over e, λ e. not_over r (same ∙ e))
-
 -- ---- whether the run was over before
 
 abbrev is_spent : Result (Option Ending) RunFault → Bool
@@ -98,26 +85,36 @@ reported_unspent kind (Err screens.TooLong) = refl
 reported_unspent kind (Err screens.Memory) = refl
 reported_unspent kind (Err screens.Write) = refl
 
-not_spent : (o n : Trace) (number : ℕ) (text : List ℕ) (done : Result (Unit {0}) Stop)
+-- what the result of a command says of both
+result_facts : (o n : Trace) (number : ℕ) (text : List ℕ) (done : Result (Unit {0}) Stop)
     (r : Result (Option Ending) RunFault)
-    → IsResultOf o n number text done r → is_spent r ≡ false
-not_spent o n number text (Ok x) r is = ap is_spent is.is
-not_spent o n number text (Err (stops.Fault f)) r is = ap is_spent is.is ∙ reported_unspent f.kind is.shown
-not_spent o n number text (Err stops.Ended) r is = ap is_spent is.is
-not_spent o n number text (Err stops.NoInput) r is = ap is_spent is.is
-not_spent o n number text (Err (stops.Pause pauses.Ended)) r is = ap is_spent is.is
-not_spent o n number text (Err (stops.Pause (pauses.OutOfRange k))) r is = ap is_spent is.is
-not_spent o n number text (Err (stops.Pause pauses.Memory)) r is = ap is_spent is.is
-not_spent o n number text (Err stops.Memory) r is = ap is_spent is.is
-not_spent o n number text (Err stops.Unread) r is = ap is_spent is.is
-not_spent o n number text (Err stops.Unwritten) r is = ap is_spent is.is
+    → IsResultOf o n number text done r → (is_over r ≡ is_err done) × (is_spent r ≡ false)
+result_facts o n number text (Ok x) r is = (ap is_over is.is, ap is_spent is.is)
+result_facts o n number text (Err (stops.Fault f)) r is =
+    (ap is_over is.is ∙ reported_over f.kind is.shown, ap is_spent is.is ∙ reported_unspent f.kind is.shown)
+result_facts o n number text (Err stops.Ended) r is = (ap is_over is.is, ap is_spent is.is)
+result_facts o n number text (Err stops.NoInput) r is = (ap is_over is.is, ap is_spent is.is)
+result_facts o n number text (Err (stops.Pause pauses.Ended)) r is = (ap is_over is.is, ap is_spent is.is)
+result_facts o n number text (Err (stops.Pause (pauses.OutOfRange k))) r is = (ap is_over is.is, ap is_spent is.is)
+result_facts o n number text (Err (stops.Pause pauses.Memory)) r is = (ap is_over is.is, ap is_spent is.is)
+result_facts o n number text (Err stops.Memory) r is = (ap is_over is.is, ap is_spent is.is)
+result_facts o n number text (Err stops.Unread) r is = (ap is_over is.is, ap is_spent is.is)
+result_facts o n number text (Err stops.Unwritten) r is = (ap is_over is.is, ap is_spent is.is)
+
+-- it continues where the command was done
+pub result_goes : (o n : Trace) (number : ℕ) (text : List ℕ) (done : Result (Unit {0}) Stop)
+    (r : Result (Option Ending) RunFault)
+    → IsResultOf o n number text done r → (r ≡ Ok None ↔ is_err done ≡ false)
+result_goes o n number text done r is =
+    let same = (result_facts o n number text done r is).0 in
+    (λ e. sym same ∙ ap is_over e, λ e. not_over r (same ∙ e))
 
 -- it was not, where a command was done or stopped
 pub result_unspent : (o n : Trace) (number : ℕ) (text : List ℕ) (done : Result (Unit {0}) Stop)
     (r : Result (Option Ending) RunFault)
     → IsResultOf o n number text done r → r ≡ Err faults.Spent → ⊥
 result_unspent o n number text done r is e =
-    let k : true ≡ false = sym (ap is_spent e) ∙ not_spent o n number text done r is in
+    let k : true ≡ false = sym (ap is_spent e) ∙ (result_facts o n number text done r is).1 in
     absurd cc
 
 -- ---- lines that the source didn't give

@@ -3,7 +3,7 @@
 ghost use Rattle.std.specs.Prelude.{◌≡◌, ℕ, List, Some, slice_get};
 ghost use Rattle.ptb_expr.specs.Store.{Cells};
 ghost use Rattle.ptb_machine.specs.CommandIo.{io_trace, SameDevices};
-ghost use Rattle.ptb_machine.specs.CommandResults.{IsResultOf};
+ghost use Rattle.ptb_machine.specs.CommandResults.{IsResultOf, stopped};
 
 use crate::command_io::CommandIo;
 use crate::ending::Ending;
@@ -14,6 +14,23 @@ use crate::stop::Stop;
 use ptb_answers::{Chooser, Pause};
 use ptb_devices::{LineSource, Screen};
 use ptb_text::Program;
+
+// The result of a step whose command stopped so, once its fault is reported if it has one.
+fn stopped(stop: Stop) -> Result<Option<Ending>, RunFault>
+    ensures { result ≡ stopped stop }
+{
+    match stop {
+        Stop::Fault(fault) => Ok(Some(ending_of(fault.kind))),
+        Stop::Ended => Ok(Some(Ending::Stop)),
+        Stop::NoInput => Ok(Some(Ending::NoInput)),
+        Stop::Pause(Pause::Ended) => Ok(Some(Ending::NoAnswer)),
+        Stop::Pause(Pause::OutOfRange(_)) => Ok(Some(Ending::BadAnswer)),
+        Stop::Pause(Pause::Memory) => Err(RunFault::Memory),
+        Stop::Memory => Err(RunFault::Memory),
+        Stop::Unread => Err(RunFault::Read),
+        Stop::Unwritten => Err(RunFault::Write),
+    }
+}
 
 /// The result of a step whose command, one of this statement, has the result `done`. A fault is
 /// reported.
@@ -30,20 +47,15 @@ pub(crate) fn result_of<C: Chooser, S: Screen, L: LineSource>(
     ensures chooser { io.new.chooser ≡ io.old.chooser }
     ensures same { SameDevices io.old io.new }
 {
-    match done {
-        Ok(()) => Ok(None),
-        Err(Stop::Fault(fault)) => {
+    let Err(stop) = done else {
+        return Ok(None);
+    };
+    match stop {
+        Stop::Fault(fault) => {
             let (number, text) = line_at(program, statement);
             report(io.screen, &mut io.fresh, number.unsigned_abs(), text, fault)?;
             Ok(Some(ending_of(fault.kind)))
         }
-        Err(Stop::Ended) => Ok(Some(Ending::Stop)),
-        Err(Stop::NoInput) => Ok(Some(Ending::NoInput)),
-        Err(Stop::Pause(Pause::Ended)) => Ok(Some(Ending::NoAnswer)),
-        Err(Stop::Pause(Pause::OutOfRange(_))) => Ok(Some(Ending::BadAnswer)),
-        Err(Stop::Pause(Pause::Memory)) => Err(RunFault::Memory),
-        Err(Stop::Memory) => Err(RunFault::Memory),
-        Err(Stop::Unread) => Err(RunFault::Read),
-        Err(Stop::Unwritten) => Err(RunFault::Write),
+        _ => stopped(stop),
     }
 }
