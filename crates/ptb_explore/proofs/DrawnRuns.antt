@@ -150,11 +150,3 @@ module _ (lines : List (List ℕ)) (rules : Rules) (q p : StoredProgram) (first 
         → WritesRun (report form (play p lines rules)) (run_in p) old new r
     run_of same w = subst (λ (x : StoredProgram). WritesRun (report form (play x lines rules)) (run_in x) old new r)
         same w
-
-  -- with the fault by another name
-  pub broken_run : (form : Form) (old new : Option (List ℕ)) (fault kind : ScreenFault) → fault ≡ kind → q ≡ p
-      → WritesRun (report form (play q lines rules)) (run_in q) old new (Err fault)
-      → WritesRun (report form (play p lines rules)) (run_in p) old new (Err kind)
-  broken_run form old new fault kind is same w =
-      subst (λ (e : ScreenFault). WritesRun (report form (play p lines rules)) (run_in p) old new (Err e)) is
-      (run_of form old new (Err fault) same w)
