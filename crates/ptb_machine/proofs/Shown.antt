@@ -131,18 +131,24 @@ short_decimal (pos n) h = let fits = h.sfits in
 short_decimal (negsuc n) h = let fits = h.sfits in
     omega (arith, length-decimal-le 5 (suc n) (omega arith) (omega arith) (omega arith))
 
--- the decimals s end after 16 bytes that were blanks; the first k of these go, and some of 239 blanks come before
-pub padded_parts : (s text : List ℕ) (start k before w : ℕ) → start + length s ≡ 16
-    → drop start text ≡ s ++ drop 16 (replicate 16 32) → take start text ≡ take start (replicate 16 32) → k ≤ start
-    → before ≤ 239 → before + (start - k) ≡ w - length s
-    → take before (replicate 239 32) ++ drop k text ≡ replicate (w - length s) 32 ++ s
-padded_parts s text start k before w ends written same few fits size =
+-- the text s ends where 16 bytes end that were blanks
+pub after_blanks : (s text : List ℕ) (start : ℕ) → start + length s ≡ 16
+    → drop start text ≡ s ++ drop 16 (replicate 16 32) → take start text ≡ take start (replicate 16 32)
+    → text ≡ replicate start 32 ++ s
+after_blanks s text start ends written same =
     let short : start ≤ 16 = omega (arith, ends) in
-    let parts : k + (start - k) ≡ start = omega (arith, few) in
-    let whole : text ≡ replicate k 32 ++ (replicate (start - k) 32 ++ s) =
     sym (take-append-drop start text)
     ∙ ap (λ (x : List ℕ). x ++ drop start text) (same ∙ take-replicate start 16 32 short)
     ∙ ap (λ (x : List ℕ). replicate start 32 ++ x) (written ∙ append-nil s)
+
+-- of the blanks before a text the first k go, and some of 239 blanks come before the others
+pub padded_parts : (s text : List ℕ) (start k before w : ℕ) → text ≡ replicate start 32 ++ s → k ≤ start
+    → before ≤ 239 → before + (start - k) ≡ w - length s
+    → take before (replicate 239 32) ++ drop k text ≡ replicate (w - length s) 32 ++ s
+padded_parts s text start k before w is few fits size =
+    let parts : k + (start - k) ≡ start = omega (arith, few) in
+    let whole : text ≡ replicate k 32 ++ (replicate (start - k) 32 ++ s) =
+    is
     ∙ ap (λ (n : ℕ). replicate n 32 ++ s) (sym parts)
     ∙ ap (λ (x : List ℕ). x ++ s) (sym (replicate-append-replicate k (start - k) 32))
     ∙ append_assoc (replicate k 32) (replicate (start - k) 32) s in

@@ -1,6 +1,7 @@
 // This file shows what the operations of a command show.
 
-ghost use Rattle.std.specs.Prelude.{◌≡◌, ◌+◌, ◌≤◌, ◌++◌, ◌∷◌, [], ℕ, ℤ, Bool, List, length, take, drop};
+ghost use Rattle.std.specs.Prelude.{◌≡◌, ◌+◌, ◌-◌, ◌≤◌, ◌++◌, ◌∷◌, [], ℕ, ℤ, Bool, List, length, take};
+ghost use Rattle.std.specs.Prelude.{drop, replicate};
 ghost use Rattle.std.specs.Fmt.{signed_decimal};
 ghost use Rattle.ptb_expr.specs.Store.{Cells};
 ghost use Rattle.ptb_expr.specs.Tree.{Tree};
@@ -26,9 +27,6 @@ use ptb_expr::{FaultKind, Step, Steps, Store};
 
 /// The width of the values at the start of each command.
 pub const FIRST_WIDTH: u8 = 6;
-
-/// How many bytes the decimals of a value have at most.
-const DECIMALS: usize = 6;
 
 /// How many bytes of a value are written at once: its decimals, and blanks before them.
 const TEXT: usize = 16;
@@ -118,14 +116,16 @@ fn write_decimal(value: i16, bytes: &mut [u8], to: usize) -> usize
     start - 1
 }
 
-// Gathers a value with blanks before it up to the width.
+// Gathers the decimals that a text has after its blanks, from the place `start` on, with blanks before
+// them up to the width.
 #[inline(always)]
-fn gather_value(pending: &mut PendingOutput, width: u8, value: i16)
-    requires { length pending.old + (width + DECIMALS) ≤ PENDING_LIMIT }
-    ensures { pending.new ≡ pending.old ++ padded_decimal width value }
+fn gather_decimals(pending: &mut PendingOutput, width: u8, text: &[u8], start: usize)
+    requires text { (length text.now ≡ TEXT) × (start ≤ TEXT) }
+    requires blanks { length pending.old + width ≤ PENDING_LIMIT }
+    requires decimals { length pending.old + (TEXT - start) ≤ PENDING_LIMIT }
+    ensures { (decimals : List ℕ) → text.now ≡ replicate start 32 ++ decimals →
+        pending.new ≡ pending.old ++ (replicate (width - length decimals) 32 ++ decimals) }
 {
-    let mut text = [b' '; TEXT];
-    let start = write_decimal(value, &mut text, TEXT);
     let width = usize::from(width);
     let before = width.saturating_sub(TEXT);
     pending.append(&BLANKS[..before]);
@@ -148,8 +148,10 @@ fn show_value<C: Chooser, S: Screen, L: LineSource>(
         (show (padded_decimal width value)) goes_on result }
     ensures same { SameDevices io.old io.new }
 {
-    io.make_room(pending, usize::from(width) + DECIMALS)?;
-    gather_value(pending, width, value);
+    let mut text = [b' '; TEXT];
+    let start = write_decimal(value, &mut text, TEXT);
+    io.make_room(pending, usize::from(width).max(TEXT - start))?;
+    gather_decimals(pending, width, &text, start);
     Ok(())
 }
 
