@@ -546,20 +546,6 @@ module _ (said : List ℕ) (x : Tree) (prompt : List ℕ) where
   unfolding line_next
   line_refines_part at l a b = refines_part_on (λ u. worth at l) (both_move l newline a b)
 
-  pub line_stops : (refused : Refusal → Type 0) (o n : Trace) (at : Target) (l : List ℕ) (e : Stop)
-      → Stops refused (RefinesPartTo o n (show l)) n.devices e
-      → Stops refused (RefinesPartTo o n (line_left at l)) n.devices e
-  unfolding line_next worth answered
-  line_stops refused o n at l e h = stops_first refused o n (show (l ++ newline)) (λ u. worth at l)
-      (λ u. worth_adds at l) e (first_stops l newline refused o n e h)
-
-  pub newline_stops : (refused : Refusal → Type 0) {o m : Trace} (n : Trace) (at : Target) (l : List ℕ) (e : Stop)
-      → RefinesPart o m (show l) (goes_on tt) → Stops refused (RefinesPartTo m n (show newline)) n.devices e
-      → Stops refused (RefinesPartTo o n (line_left at l)) n.devices e
-  unfolding line_next worth answered
-  newline_stops refused {o = o} n at l e a h = stops_first refused o n (show (l ++ newline)) (λ u. worth at l)
-      (λ u. worth_adds at l) e (second_stops l newline refused n e a h)
-
   worth_stops : (refused : Refusal → Type 0) (o n : Trace) (at : Target) (l : List ℕ) (e : Stop)
       → Stops refused (RefinesPartTo o n (line_value l)) n.devices e
       → Stops refused (RefinesPartTo o n (worth at l)) n.devices e
@@ -581,18 +567,6 @@ module _ (said : List ℕ) (x : Tree) (prompt : List ℕ) where
   again_refines_part {m = m} {n = n} at l f bytes k a b =
       refines_part_then (refines_part_on (answered at) a) (refines_part_on (λ u. item_action said x prompt)
       (subst (λ (s : List ℕ). RefinesPart m n (show s) (goes_on tt)) k b))
-
-  again_stops : (refused : Refusal → Type 0) {o m : Trace} (n : Trace) (at : Target) (l : List ℕ) (f : Fault)
-      (bytes : List ℕ)
-      → bytes ≡ fault_word f.kind ++ newline → (e : Stop) → RefinesPart o m (line_value l) (goes_on (Err f))
-      → Stops refused (RefinesPartTo m n (show bytes)) n.devices e
-      → Stops refused (RefinesPartTo o n (worth at l)) n.devices e
-  unfolding worth answered
-  again_stops refused {m = m} n at l f bytes k e a h =
-      stops_after refused n (refines_part_on (answered at) a) e
-      (stops_first refused m n (show (fault_word f.kind ++ newline)) (λ u. item_action said x prompt)
-      (λ u. item_action_adds) e
-      (subst (λ (s : List ℕ). Stops refused (RefinesPartTo m n (show s)) n.devices e) k h))
 
   -- where it stops, once it is shown
   pub line_worth_stops : (refused : Refusal → Type 0) {o m k : Trace} (n : Trace) (at : Target) (l : List ℕ) (e : Stop)
@@ -622,18 +596,6 @@ module _ (said : List ℕ) (x : Tree) (prompt : List ℕ) where
       refines_part_then (line_refines_part at l a b)
       (again_refines_part at l f bytes same
       (subst (λ (x : Result ℤ Fault). RefinesPart k j (line_value l) (goes_on x)) is c) d)
-
-  pub line_again_stops : (refused : Refusal → Type 0) {o m k j : Trace} (n : Trace) (at : Target) (l : List ℕ)
-      (f : Fault) (bytes : List ℕ) (r : Result ℤ Fault) (e : Stop)
-      → bytes ≡ fault_word f.kind ++ newline → r ≡ Err f → RefinesPart o m (show l) (goes_on tt)
-      → RefinesPart m k (show newline) (goes_on tt) → RefinesPart k j (line_value l) (goes_on r)
-      → Stops refused (RefinesPartTo j n (show bytes)) n.devices e
-      → Stops refused (RefinesPartTo o n (line_left at l)) n.devices e
-  unfolding line_next worth answered
-  line_again_stops refused {k = k} {j = j} n at l f bytes r e same is a b c h =
-      stops_after refused n (line_refines_part at l a b) e
-      (again_stops refused n at l f bytes same e
-      (subst (λ (x : Result ℤ Fault). RefinesPart k j (line_value l) (goes_on x)) is c) h)
 
   -- a line is given, to which nothing but lines without a value led
   pub line_asked : {i o m : Trace} (most : ℕ) (at : Target) (l : List ℕ) (k : List (List ℕ))
