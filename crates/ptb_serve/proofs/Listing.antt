@@ -19,6 +19,7 @@ use Rattle.ptb_explore.specs.RunTree.{Front, runs_left}
 use Rattle.ptb_options.specs.declared.request.Mode.{Mode}
 use Rattle.ptb_options.specs.declared.request.Mode.TheVariants as modes
 use Rattle.ptb_options.specs.declared.request.Request.{Request}
+use Rattle.ptb_machine.specs.Streams.{Writes as Output}
 use Rattle.ptb_serve.specs.declared.note.Note.{Note}
 use Rattle.ptb_serve.specs.declared.note.Note.TheVariants as notes
 use Rattle.ptb_explore.specs.declared.fault.OpenFault.{OpenFault}
@@ -31,7 +32,7 @@ use Rattle.ptb_serve.specs.ServedRequests.{ListsFewerOf, device_note, reports_no
 use Rattle.ptb_serve.proofs.Listed.{front_note-loaded, front_note-other, front_note-silent, lists_fewer}
 use Rattle.ptb_serve.proofs.Listed.{runs_due, serves_front, serves_mode, serves_reports, serves_some}
 use Rattle.ptb_serve.proofs.Served.{at_known, lists_loaded, nothing_told, serves_loaded}
-use Rattle.ptb_serve.proofs.WholeInput.{IsDue, TellsWriter, all_due, all_written, cut_due}
+use Rattle.ptb_serve.proofs.WholeInput.{all_due, all_written, cut_due, IsDue, TellsWriter}
 use Rattle.ptb_serve.proofs.WholeInput.{cut_silent, reports_cut, unread_due}
 
 module _ (request : Request) (p : StoredProgram) (memory : p.memory ≡ request.memory)
@@ -111,7 +112,7 @@ module _ (request : Request) (p : StoredProgram) (memory : p.memory ≡ request.
     listing_unbegun held broke Memory x = unbegun_noted held broke notes.OutOfMemory (inl refl)
 
     -- an explorer continued from its front
-    module _ (old new : Option (List ℕ)) (broke breaks : ℕ) (e : Exploration) (f : Front)
+    module _ (out : Output) (e : Exploration) (f : Front)
         (same : e ≡ record {
           program = p;
           input = input;
@@ -125,32 +126,31 @@ module _ (request : Request) (p : StoredProgram) (memory : p.memory ≡ request.
       abbrev Writes : Result ℕ ExploreFault → Type 0
       Writes result =
           WritesRuns (play_of e) e.under (report form (play_of e))
-          (runs_left (play_of e) (most_of e) e.under e.front first) e.front f old new result
+          (runs_left (play_of e) (most_of e) e.under e.front first) e.front f out.before out.after result
 
       -- some reports are written
       pub listing_broken : {T : Type 0} (result : Result ℕ Note) (fault : ExploreFault)
           → IsErrAnd result (λ n. n ≡ reports_note fault) → Writes (Err fault)
-          → TellsWriter T fault broke breaks
-          → IsServedOn listing request p input (record { before = old; after = new; failed = broke; fails = breaks })
-          result
+          → TellsWriter T fault out.failed out.fails
+          → IsServedOn listing request p input out result
       listing_broken {T = T} result fault is writes =
-          reports_cut listing request p input (record { before = old; after = new; failed = broke; fails = breaks })
-          {T = T} result fault is
-          (λ i j lines. listing_serves i j old new (Err (reports_note fault))
-          (cut_due listing (λ c. runs_due request.rules under after first form c p) (Fewer old new) i old new fault
-          (λ c is. serves_some p request.rules under after first form old new c input
+          reports_cut listing request p input out {T = T} result fault is
+          (λ i j lines. listing_serves i j out.before out.after (Err (reports_note fault))
+          (cut_due listing (λ c. runs_due request.rules under after first form c p) (Fewer out.before out.after) i
+          out.before out.after fault
+          (λ c is. serves_some p request.rules under after first form out.before out.after c input
           (at_known (λ d. input ≡ input_lines d) c is lines) e f same begun fault writes)
-          (cut_silent listing old new tt tt fault)
-          (λ c is. lists_fewer p request.rules under after first form old new c input
+          (cut_silent listing out.before out.after tt tt fault)
+          (λ c is. lists_fewer p request.rules under after first form out.before out.after c input
           (at_known (λ d. input ≡ input_lines d) c is lines) e f same begun fault writes)))
 
       -- all are
-      pub listing_written : (n : ℕ) → Writes (Ok n) → breaks ≡ broke
-          → IsServedOn listing request p input (record { before = old; after = new; failed = broke; fails = breaks })
-          (Ok 0)
+      pub listing_written : (n : ℕ) → Writes (Ok n) → out.fails ≡ out.failed
+          → IsServedOn listing request p input out (Ok 0)
       listing_written n writes =
-          all_written listing request p input (record { before = old; after = new; failed = broke; fails = breaks })
-          (λ i j lines. listing_serves i j old new (Ok 0)
-          (all_due listing (λ c. runs_due request.rules under after first form c p) (Fewer old new) i old new
-          (λ c is. serves_reports p request.rules under after first form old new c input
+          all_written listing request p input out
+          (λ i j lines. listing_serves i j out.before out.after (Ok 0)
+          (all_due listing (λ c. runs_due request.rules under after first form c p) (Fewer out.before out.after) i
+          out.before out.after
+          (λ c is. serves_reports p request.rules under after first form out.before out.after c input
           (at_known (λ d. input ≡ input_lines d) c is lines) e f same begun n writes) tt))

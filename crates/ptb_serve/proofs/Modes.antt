@@ -108,48 +108,40 @@ module _ (request : Request) (p : StoredProgram) where
           input_kept = λ x. absurd (x tt);
         })
 
-    -- the lists that split its runs
-    pub served_shares : (result : Result ℕ Note) (mode : Mode) (n : ℕ) (form : Form) → mode ≡ modes.Shares n form
-        → IsServed (modes.Shares n form) request p input out result → IsServedIn input out result None None mode
-    served_shares result mode n form is x =
+    -- what is served in a mode by another name, where no list and no line are spoken of
+    served_alone : (result : Result ℕ Note) (mode other : Mode) → mode ≡ other → IsServed other request p input out
+        result
+        → TellsLine other request p input.bytes result None → NeedsInput other
+        → IsServedIn input out result None None mode
+    served_alone result mode other is x line needs =
         subst (IsServedIn input out result None None) (sym is)
         (record {
           serves = x.serves;
           reads = x.reads;
           failures = x.failures;
           mismatch = none_told _ _ _ _ _ x.no_list;
-          line = none_stopped _ _ _ _ _ (λ lines. refl);
-          input_kept = λ y. absurd (y tt);
+          line = line;
+          input_kept = λ y. absurd (y needs);
         })
+
+    -- the lists that split its runs
+    pub served_shares : (result : Result ℕ Note) (mode : Mode) (n : ℕ) (form : Form) → mode ≡ modes.Shares n form
+        → IsServed (modes.Shares n form) request p input out result → IsServedIn input out result None None mode
+    served_shares result mode n form is x =
+        served_alone result mode (modes.Shares n form) is x (none_stopped _ _ _ _ _ (λ lines. refl)) tt
 
     -- a sample of its runs
     pub served_sample : (result : Result ℕ Note) (mode : Mode) (seed runs : ℕ) (form : Form)
         → mode ≡ modes.Sample seed runs form
         → IsServed (modes.Sample seed runs form) request p input out result → IsServedIn input out result None None mode
     served_sample result mode seed runs form is x =
-        subst (IsServedIn input out result None None) (sym is)
-        (record {
-          serves = x.serves;
-          reads = x.reads;
-          failures = x.failures;
-          mismatch = none_told _ _ _ _ _ x.no_list;
-          line = none_stopped _ _ _ _ _ (λ lines. refl);
-          input_kept = λ y. absurd (y tt);
-        })
+        served_alone result mode (modes.Sample seed runs form) is x (none_stopped _ _ _ _ _ (λ lines. refl)) tt
 
     -- the table of its chances
     pub served_chances : (result : Result ℕ Note) (mode : Mode) → mode ≡ modes.Chances
         → IsServed modes.Chances request p input out result → IsServedIn input out result None None mode
     served_chances result mode is x =
-        subst (IsServedIn input out result None None) (sym is)
-        (record {
-          serves = x.serves;
-          reads = x.reads;
-          failures = x.failures;
-          mismatch = none_told _ _ _ _ _ x.no_list;
-          line = none_stopped _ _ _ _ _ (λ lines. refl);
-          input_kept = λ y. absurd (y tt);
-        })
+        served_alone result mode modes.Chances is x (none_stopped _ _ _ _ _ (λ lines. refl)) tt
 
   -- a listing of its text, which leaves the input alone
   module _ {R : Type 0} (i : R) (known : Option (List ℕ)) (failed gave : ℕ) (out : Writes) (mode : Mode)

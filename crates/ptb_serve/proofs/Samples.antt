@@ -23,6 +23,7 @@ use Rattle.ptb_options.specs.declared.request.Mode.{Mode}
 use Rattle.ptb_options.specs.declared.request.Mode.TheVariants as modes
 use Rattle.ptb_options.specs.declared.request.Request.{Request}
 use Rattle.ptb_machine.proofs.Playing.{takes_beginning}
+use Rattle.ptb_machine.specs.Streams.{Writes as Output}
 use Rattle.ptb_serve.specs.declared.note.Note.{Note}
 use Rattle.ptb_serve.specs.declared.note.Note.TheVariants as notes
 use Rattle.ptb_serve.specs.Loaded.{IsServedOn, ServesProgram}
@@ -30,7 +31,7 @@ use Rattle.ptb_serve.specs.Replies.{Reply, runs_drawn, sample_reply}
 use Rattle.ptb_serve.specs.ServedRequests.{SamplesFewerOf, Serves, device_note, outcome_of, reports_note}
 use Rattle.ptb_serve.proofs.Listed.{below_both, serves_mode, text-beginning, text-into}
 use Rattle.ptb_serve.proofs.Served.{nothing_told, samples_loaded, serves_loaded}
-use Rattle.ptb_serve.proofs.WholeInput.{IsDue, TellsWriter, all_due, all_written, at_lines, cut_due, cut_silent}
+use Rattle.ptb_serve.proofs.WholeInput.{all_due, all_written, at_lines, cut_due, cut_silent, IsDue, TellsWriter}
 use Rattle.ptb_serve.proofs.WholeInput.{reports_cut, unread_due}
 
 -- ---- what was written
@@ -92,33 +93,33 @@ module _ (request : Request) (p : StoredProgram) (memory : p.memory ≡ request.
     pub unread_sampled : (held : Option (List ℕ)) (fault : DeviceFault) → IsSourceFault fault
         → ServesProgram sample request p i j held held (Err (device_note fault))
     unread_sampled held fault kind =
-        sample_serves held held (Err (device_note fault))
-        (unread_due sample reply (Fewer held held) i held (Appends-nil held) tt fault kind)
+        sample_serves held held _ (unread_due sample reply (Fewer held held) i held (Appends-nil held) tt fault kind)
 
   -- they were read, and are `input`
-  module _ (input : List (List ℕ)) (old new : Option (List ℕ)) (broke breaks : ℕ) where
-    pub sample_written : Writes p request seed runs form input old new (Ok tt) → breaks ≡ broke
-        → IsServedOn sample request p input (record { before = old; after = new; failed = broke; fails = breaks })
-        (Ok 0)
+  module _ (input : List (List ℕ)) (out : Output) where
+    pub sample_written : Writes p request seed runs form input out.before out.after (Ok tt) → out.fails ≡ out.failed
+        → IsServedOn sample request p input out (Ok 0)
     sample_written w =
-        all_written sample request p input (record { before = old; after = new; failed = broke; fails = breaks })
-        (λ i j lines. sample_serves i j old new (Ok 0) (all_due sample reply (Fewer old new) i old new
-        (at_lines (λ l. Serves (sample_reply p l request.rules seed runs form) old new (outcome_of (Ok 0))) input i
+        all_written sample request p input out
+        (λ i j lines. sample_serves i j out.before out.after (Ok 0) (all_due sample reply (Fewer out.before out.after)
+        i out.before out.after
+        (at_lines (λ l. Serves (sample_reply p l request.rules seed runs form) out.before out.after (outcome_of (Ok
+        0))) input i
         lines (record { bytes = w; status = refl; note = refl })) tt))
 
     pub sample_broken : {T : Type 0} (result : Result ℕ Note) (fault : ExploreFault)
-        → IsErrAnd result (λ n. n ≡ reports_note fault) → Writes p request seed runs form input old new (Err fault)
-        → TellsWriter T fault broke breaks
-        → IsServedOn sample request p input (record { before = old; after = new; failed = broke; fails = breaks })
-        result
+        → IsErrAnd result (λ n. n ≡ reports_note fault) → Writes p request seed runs form input out.before out.after
+        (Err fault)
+        → TellsWriter T fault out.failed out.fails
+        → IsServedOn sample request p input out result
     sample_broken {T = T} result fault is w =
-        reports_cut sample request p input (record { before = old; after = new; failed = broke; fails = breaks })
-        {T = T} result fault is
-        (λ i j lines. sample_serves i j old new (Err (reports_note fault))
-        (cut_due sample reply (Fewer old new) i old new fault
-        (at_lines (λ l. Serves (sample_reply p l request.rules seed runs form) old new
+        reports_cut sample request p input out {T = T} result fault is
+        (λ i j lines. sample_serves i j out.before out.after (Err (reports_note fault))
+        (cut_due sample reply (Fewer out.before out.after) i out.before out.after fault
+        (at_lines (λ l. Serves (sample_reply p l request.rules seed runs form) out.before out.after
         (outcome_of (Err (reports_note fault)))) input i lines
-        (cut_served p request seed runs form input old new fault w))
-        (cut_silent sample old new tt tt fault)
-        (λ c is refused. at_lines (λ l. SamplesFewerOf p l request.rules seed runs form old new) input i lines
-        (fewer_sampled p request seed runs form input old new fault w refused) c is)))
+        (cut_served p request seed runs form input out.before out.after fault w))
+        (cut_silent sample out.before out.after tt tt fault)
+        (λ c is refused. at_lines (λ l. SamplesFewerOf p l request.rules seed runs form out.before out.after) input i
+        lines
+        (fewer_sampled p request seed runs form input out.before out.after fault w refused) c is)))

@@ -14,7 +14,6 @@ use Rattle.ptb_text.specs.Loading.{IsLoaded, IsRefusedAt}
 use Rattle.ptb_text.specs.Statements.{Statements, StoredProgram, program_limit}
 use Rattle.ptb_text.specs.Lines.{input_lines}
 use Rattle.ptb_machine.specs.declared.ending.Ending.{Ending}
-use Rattle.ptb_machine.specs.declared.ending.Ending.TheVariants as endings
 use Rattle.ptb_machine.specs.declared.fault.RunFault.{RunFault}
 use Rattle.ptb_answers.specs.Outcome.{Answers}
 use Rattle.ptb_answers.specs.declared.form.Form.{Form}
@@ -24,13 +23,14 @@ use Rattle.ptb_devices.specs.Sources.{ConsumesAtMost}
 use Rattle.ptb_options.specs.declared.request.Mode.{Mode}
 use Rattle.ptb_options.specs.declared.request.Mode.TheVariants as modes
 use Rattle.ptb_options.specs.declared.request.Request.{Request}
+use Rattle.ptb_explore.proofs.EveryEnding.{every_ending}
 use Rattle.ptb_serve.specs.declared.note.Note.{Note}
 use Rattle.ptb_serve.specs.declared.note.Note.TheVariants as notes
 use Rattle.ptb_serve.specs.declared.service.Outcome.{Outcome}
 use Rattle.ptb_serve.specs.Statuses.{note_status}
 use Rattle.ptb_machine.specs.PlainRuns.{ShowsRun, lines_come, ShowsUnread, ending_wanted, lines_taken}
 use Rattle.ptb_machine.specs.PlainRuns.{lines_wanted, ReadsFor}
-use Rattle.ptb_machine.specs.Streams.{Reads, Writes}
+use Rattle.ptb_machine.specs.Streams.{Reads, Writes, reads_of}
 use Rattle.ptb_serve.specs.Replies.{Reply, refusal, run_reply, program_of_text, reply_or_refusal, program_reply}
 use Rattle.ptb_serve.specs.ServedRequests.{outcome_of, EndsUnread, IsCheck, IsPlainRun, ReadsBy}
 use Rattle.ptb_serve.specs.ServedRequests.{outcome_wanted, wanted_by, load_note, AsksForMore, IsUnloaded}
@@ -80,16 +80,7 @@ nothing_told (Some b) = tt
 
 -- a reader and a writer that are left alone
 abbrev pub unread : {R : Type 0} → R → Option (List ℕ) → ℕ → ℕ → Reads R
-unread r known given failures = record {
-  old = r;
-  new = r;
-  bytes = known;
-  left = known;
-  gave = given;
-  gives = given;
-  failed = failures;
-  fails = failures;
-}
+unread r known given failures = reads_of (λ _. known) (λ _. given) (λ _. failures) r r
 
 abbrev pub unwritten : Option (List ℕ) → ℕ → Writes
 unwritten held failures = record { before = held; after = held; failed = failures; fails = failures }
@@ -379,15 +370,8 @@ asks_loaded request b c p seed old new h e asks =
 -- ---- a run
 
 pub status_within : (e : Ending) → status e ≤ 7
-status_within endings.End = omega arith
-status_within endings.Stop = omega arith
-status_within endings.What = omega arith
-status_within endings.How = omega arith
-status_within endings.Sorry = omega arith
-status_within endings.Limit = omega arith
-status_within endings.NoInput = omega arith
-status_within endings.NoAnswer = omega arith
-status_within endings.BadAnswer = omega arith
+status_within = every_ending (λ e. status e ≤ 7) (omega arith) (omega arith) (omega arith) (omega arith) (omega arith)
+    (omega arith) (omega arith) (omega arith) (omega arith)
 
 -- the result of a run on the lines of an input
 module _ (run : List (List ℕ) → List ℕ × Ending) (known : Option (List ℕ)) (c : List ℕ)
@@ -491,17 +475,10 @@ reads_loaded request count (Some b) (Some c) left p outcome result h e same r =
 
 pub wanted_ended : (e : Ending) (n : ℕ) → n ≡ status e → (k : ℕ)
     → ending_wanted k (Ok e) ≡ outcome_wanted k (outcome_of (Ok n))
-wanted_ended e n number k = by_ending e ∙ ap (λ s. outcome_wanted k (outcome_of (Ok s))) (sym number) where
-  by_ending : (e : Ending) → ending_wanted k (Ok e) ≡ outcome_wanted k (outcome_of (Ok (status e)))
-  by_ending endings.End = refl
-  by_ending endings.Stop = refl
-  by_ending endings.What = refl
-  by_ending endings.How = refl
-  by_ending endings.Sorry = refl
-  by_ending endings.Limit = refl
-  by_ending endings.NoInput = refl
-  by_ending endings.NoAnswer = refl
-  by_ending endings.BadAnswer = refl
+wanted_ended e n number k =
+    every_ending (λ e. ending_wanted k (Ok e) ≡ outcome_wanted k (outcome_of (Ok (status e))))
+    refl refl refl refl refl refl refl refl refl e
+    ∙ ap (λ s. outcome_wanted k (outcome_of (Ok s))) (sym number)
 
 -- ---- an outcome
 

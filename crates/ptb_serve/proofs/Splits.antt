@@ -26,6 +26,7 @@ use Rattle.ptb_options.specs.declared.request.Mode.{Mode}
 use Rattle.ptb_options.specs.declared.request.Mode.TheVariants as modes
 use Rattle.ptb_options.specs.declared.request.Request.{Request}
 use Rattle.ptb_machine.proofs.Playing.{takes_beginning}
+use Rattle.ptb_machine.specs.Streams.{Writes as Output}
 use Rattle.ptb_serve.specs.declared.note.Note.{Note}
 use Rattle.ptb_serve.specs.declared.note.Note.TheVariants as notes
 use Rattle.ptb_serve.specs.Loaded.{IsServedOn, ServesProgram}
@@ -34,7 +35,7 @@ use Rattle.ptb_serve.specs.ServedRequests.{SplitsFewerOf, Serves, device_note, o
 use Rattle.ptb_serve.proofs.Listed.{below_both, serves_mode, text-beginning, text-into}
 use Rattle.ptb_serve.proofs.Mismatches.{run_refuses_none}
 use Rattle.ptb_serve.proofs.Served.{nothing_told, splits_loaded, serves_loaded, takes_nothing}
-use Rattle.ptb_serve.proofs.WholeInput.{IsDue, TellsWriter, all_due, all_written, at_lines, cut_due, cut_silent}
+use Rattle.ptb_serve.proofs.WholeInput.{all_due, all_written, at_lines, cut_due, cut_silent, IsDue, TellsWriter}
 use Rattle.ptb_serve.proofs.WholeInput.{gives_err, reports_cut, unread_due}
 
 -- ---- what was written
@@ -45,7 +46,7 @@ all_left [] = refl
 all_left (x ∷ xs) = ap (λ s. x ∷ s) (all_left xs)
 
 -- a number by another name
-pub begun_with : (p : StoredProgram) (input : List (List ℕ)) (rules : Rules) (n m : ℕ) → m ≡ n → (s : Splitting)
+begun_with : (p : StoredProgram) (input : List (List ℕ)) (rules : Rules) (n m : ℕ) → m ≡ n → (s : Splitting)
     → s ≡ record { program = p; input = input; rules = rules; most = m; front = Start }
     → s ≡ record { program = p; input = input; rules = rules; most = n; front = Start }
 begun_with p input rules n m same s h =
@@ -122,49 +123,47 @@ module _ (request : Request) (p : StoredProgram) (memory : p.memory ≡ request.
     pub unread_split : (held : Option (List ℕ)) (fault : DeviceFault) → IsSourceFault fault
         → ServesProgram shares request p i j held held (Err (device_note fault))
     unread_split held fault kind =
-        shares_serve held held (Err (device_note fault))
-        (unread_due shares reply (Fewer held held) i held (Appends-nil held) tt fault kind)
+        shares_serve held held _ (unread_due shares reply (Fewer held held) i held (Appends-nil held) tt fault kind)
 
   -- a search continued from its front, and is dropped
-  module _ (input : List (List ℕ)) (s : Splitting) (f : Front) (same : s ≡ record {
-    program = p;
-    input = input;
-    rules = request.rules;
-    most = n;
-    front = Start;
-  }) (old new : Option (List ℕ)) (broke breaks : ℕ) where
+  module _ (input : List (List ℕ)) (s : Splitting) (f : Front) (m : ℕ) (is : m ≡ n)
+      (begun : s ≡ record { program = p; input = input; rules = request.rules; most = m; front = Start })
+      (out : Output) where
+    same : s ≡ record { program = p; input = input; rules = request.rules; most = n; front = Start }
+    same = begun_with p input request.rules n m is s begun
+
     abbrev WritesFrom : Splitting → Result ℕ ExploreFault → Type 0
     WritesFrom x r =
         WritesRuns (stopped x.most (split_play x)) [] (beginning_line form (split_play x))
-        (runs_left (stopped x.most (split_play x)) x.most [] x.front None) x.front f old new r
+        (runs_left (stopped x.most (split_play x)) x.most [] x.front None) x.front f out.before out.after r
 
-    written_from : (r : Result ℕ ExploreFault) → WritesFrom s r → Writes p request n form input old new f r
+    written_from : (r : Result ℕ ExploreFault) → WritesFrom s r → Writes p request n form input out.before out.after f r
     written_from r w = subst (λ x. WritesFrom x r) same w
 
-    pub shares_written : (k : ℕ) → WritesFrom s (Ok k) → breaks ≡ broke
-        → IsServedOn shares request p input (record { before = old; after = new; failed = broke; fails = breaks })
-        (Ok 0)
+    pub shares_written : (k : ℕ) → WritesFrom s (Ok k) → out.fails ≡ out.failed
+        → IsServedOn shares request p input out (Ok 0)
     shares_written k w =
-        all_written shares request p input (record { before = old; after = new; failed = broke; fails = breaks })
-        (λ i j lines. shares_serve i j old new (Ok 0) (all_due shares reply (Fewer old new) i old new
-        (at_lines (λ l. Serves (shares_reply p l request.rules n form) old new (outcome_of (Ok 0))) input i lines
-        (all_served p request n form input old new f k (written_from (Ok k) w))) tt))
+        all_written shares request p input out
+        (λ i j lines. shares_serve i j out.before out.after (Ok 0) (all_due shares reply (Fewer out.before out.after)
+        i out.before out.after
+        (at_lines (λ l. Serves (shares_reply p l request.rules n form) out.before out.after (outcome_of (Ok 0))) input
+        i lines
+        (all_served p request n form input out.before out.after f k (written_from (Ok k) w))) tt))
 
     pub shares_broken : {T : Type 0} (result : Result ℕ Note) (fault : ExploreFault)
         → IsErrAnd result (λ m. m ≡ reports_note fault) → WritesFrom s (Err fault)
-        → TellsWriter T fault broke breaks
-        → IsServedOn shares request p input (record { before = old; after = new; failed = broke; fails = breaks })
-        result
+        → TellsWriter T fault out.failed out.fails
+        → IsServedOn shares request p input out result
     shares_broken {T = T} result fault is w =
-        reports_cut shares request p input (record { before = old; after = new; failed = broke; fails = breaks })
-        {T = T} result fault is
-        (λ i j lines. shares_serve i j old new (Err (reports_note fault))
-        (cut_due shares reply (Fewer old new) i old new fault
-        (at_lines (λ l. Serves (shares_reply p l request.rules n form) old new (outcome_of (Err (reports_note fault))))
-        input i lines (cut_served p request n form input old new f fault (written_from (Err fault) w)))
-        (cut_silent shares old new tt tt fault)
-        (λ c is refused. at_lines (λ l. SplitsFewerOf p l request.rules n form old new) input i lines
-        (fewer_split p request n form input old new f fault (written_from (Err fault) w) refused) c is)))
+        reports_cut shares request p input out {T = T} result fault is
+        (λ i j lines. shares_serve i j out.before out.after (Err (reports_note fault))
+        (cut_due shares reply (Fewer out.before out.after) i out.before out.after fault
+        (at_lines (λ l. Serves (shares_reply p l request.rules n form) out.before out.after (outcome_of (Err
+        (reports_note fault))))
+        input i lines (cut_served p request n form input out.before out.after f fault (written_from (Err fault) w)))
+        (cut_silent shares out.before out.after tt tt fault)
+        (λ c is refused. at_lines (λ l. SplitsFewerOf p l request.rules n form out.before out.after) input i lines
+        (fewer_split p request n form input out.before out.after f fault (written_from (Err fault) w) refused) c is)))
 
   -- there was no memory to begin the search
   pub shares_unbegun : (input : List (List ℕ)) (held : Option (List ℕ)) (broke : ℕ) (result : Result ℕ Note)

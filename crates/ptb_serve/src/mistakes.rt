@@ -1,9 +1,10 @@
 // This file has the listing of the mistakes in a program's text.
 
-ghost use Rattle.std.specs.Prelude.{◌≡◌, ℕ, List, Option, IsErrOf};
+ghost use Rattle.std.specs.Prelude.{◌≡◌, ◌≤◌, ℕ, List, Option, IsErrOf};
 ghost use Rattle.ptb_options.specs.declared.request.Mode.TheVariants.{Check};
 ghost use Rattle.ptb_options.specs.declared.request.Request.{Request};
 ghost use Rattle.ptb_serve.specs.Loaded.{RefusesListIn, ServesProgram, TellsFailures};
+ghost use Rattle.ptb_serve.specs.Replies.{check_status};
 
 use crate::note::Note;
 use ptb_check::write_mistakes;
@@ -24,8 +25,13 @@ pub fn list_mistakes<W: Write>(program: &Program, out: &mut W) -> Result<u8, Not
     ensures no_list { ¬ RefusesListIn result }
 {
     let any = write_mistakes(program, out)?;
-    if any {
-        return Ok(1);
-    }
-    Ok(0)
+    Ok(status_of(any))
+}
+
+// 1 where there is a mistake, else 0.
+fn status_of(any: bool) -> u8
+    ensures status { result ≡ check_status any }
+    ensures small { result ≤ 1 }
+{
+    if any { 1 } else { 0 }
 }

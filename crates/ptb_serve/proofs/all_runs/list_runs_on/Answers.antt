@@ -1,6 +1,7 @@
 -- This file answers that the runs on the lines of an input are listed as is due, and what is said of a list that fits
 -- no run.
 use Rattle.std.proofs.Common.{Err, refl, subst}
+use Rattle.ptb_machine.specs.Streams.{writes_of}
 use Rattle.ptb_serve.specs.declared.note.Note.{Note}
 use Rattle.ptb_serve.specs.Loaded.{RefusesListIn}
 use Rattle.ptb_serve.proofs.Listing.{listing_broken, listing_unbegun, listing_written}
@@ -16,8 +17,7 @@ returns-in-Ok-write_reports g c =
     let listed =
     listing_written c.args.request.now c.args.program.now c.requires.memory c.args.under.now c.args.after.now
     c.args.first c.args.form c.args.lines.now
-    (g.W.Write.contents c.args.out.now) (g.W.Write.contents c.write_reports.new.out) (g.W.Write.failures c.args.out.now)
-    (g.W.Write.failures c.write_reports.new.out)
+    (writes_of g.W.Write.contents g.W.Write.failures c.args.out.now c.write_reports.new.out)
     c.in-Ok.explorer writes.writes.0 c.in-Ok.ensures.explorer c.in-Ok.ensures.begun
     _ writes.writes.1 (writes.unfailed (λ n. no_fault _ _))
     in
@@ -33,14 +33,12 @@ returns-in-Ok-write_reports g c =
 pub returns-in-Err-write_reports : goal.returns-in-Err-write_reports
 returns-in-Err-write_reports g c =
     let writes = c.in-Err-write_reports.ensures in
-    let fault = c.in-Err-write_reports.broken in
     let listed =
     listing_broken c.args.request.now c.args.program.now c.requires.memory c.args.under.now c.args.after.now
     c.args.first c.args.form c.args.lines.now
-    (g.W.Write.contents c.args.out.now) (g.W.Write.contents c.write_reports.new.out) (g.W.Write.failures c.args.out.now)
-    (g.W.Write.failures c.write_reports.new.out)
+    (writes_of g.W.Write.contents g.W.Write.failures c.args.out.now c.write_reports.new.out)
     c.in-Ok.explorer writes.writes.0 c.in-Ok.ensures.explorer c.in-Ok.ensures.begun
-    (Err c.from.result) fault c.from.ensures writes.writes.1 (writes.failed, writes.unfailed)
+    (Err c.from.result) c.in-Err-write_reports.broken c.from.ensures writes.writes.1 (writes.failed, writes.unfailed)
     in
     rw c.without_mismatch-in-Err-write_reports.ensures (record {
       serves = listed.serves;
@@ -48,7 +46,8 @@ returns-in-Err-write_reports g c =
       failures = listed.failures;
       mismatch =
           λ known _. none_told _ _ _ known _
-          (λ refuses. reports_refuse_none fault (subst (λ (n : Note). RefusesListIn (Err n)) c.from.ensures refuses));
+          (λ refuses. reports_refuse_none c.in-Err-write_reports.broken (subst (λ (n : Note). RefusesListIn (Err n))
+          c.from.ensures refuses));
       no_line = refl;
     })
 

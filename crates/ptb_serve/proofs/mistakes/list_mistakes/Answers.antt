@@ -1,6 +1,4 @@
 -- This file answers that the mistakes of a program are written as is due.
-use Rattle.std.proofs.Common.{ap, arith, sym}
-use Rattle.ptb_serve.specs.Replies.{check_status}
 use Rattle.ptb_serve.proofs.Checks.{check_broken, check_written}
 use Rattle.ptb_serve.proofs.mistakes.list_mistakes.Goals as goal
 
@@ -14,22 +12,13 @@ returns-in_err-any g c =
     in
     record { serves = told.serves; read = told.read; failures = told.failures; no_list = told.no_list }
 
-pub returns-then-any : goal.returns-then-any
-returns-then-any g c =
-    let told =
-    check_written c.args.program.now (g.W.Write.contents c.args.out.now)
-    (g.W.Write.contents c.write_mistakes.new.writer)
-    (g.W.Write.failures c.args.out.now) (g.W.Write.failures c.write_mistakes.new.writer) c.in_ok-any.any 1
-    (ap check_status (sym c.if-any.true)) (omega arith) c.in_ok-any.ensures.writes c.in_ok-any.ensures.unfailed
-    in
-    record { serves = told.serves; read = told.read; failures = told.failures; no_list = told.no_list }
-
 pub returns : goal.returns
 returns g c =
     let told =
     check_written c.args.program.now (g.W.Write.contents c.args.out.now)
     (g.W.Write.contents c.write_mistakes.new.writer)
-    (g.W.Write.failures c.args.out.now) (g.W.Write.failures c.write_mistakes.new.writer) c.in_ok-any.any 0
-    (ap check_status (sym c.if-any.false)) (omega arith) c.in_ok-any.ensures.writes c.in_ok-any.ensures.unfailed
+    (g.W.Write.failures c.args.out.now) (g.W.Write.failures c.write_mistakes.new.writer) c.in_ok-any.any
+    c.status_of.result c.status_of.ensures.status c.status_of.ensures.small c.in_ok-any.ensures.writes
+    c.in_ok-any.ensures.unfailed
     in
     record { serves = told.serves; read = told.read; failures = told.failures; no_list = told.no_list }
