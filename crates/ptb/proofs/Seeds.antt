@@ -3,7 +3,7 @@
 --     no_seed_for_input, ..  of the streams, the answers and the mode: whether a seed is drawn
 --     asks_at               what the options ask for, with the seed that was drawn or without one
 -- Main lemma: `asks_at`.
-use Rattle.std.specs.Prelude.{◌≡◌, ◌≤◌, ◌&&◌, ℕ, Bool, true, false, not, Option, Some, None, IfSome}
+use Rattle.std.specs.Prelude.{◌≡◌, ◌≤◌, ◌&&◌, ◌||◌, ℕ, Bool, true, false, not, Option, Some, None, IfSome}
 use Rattle.std.specs.Prelude.{is_some, option_map}
 use Rattle.std.proofs.Common.{refl, ◌∙◌, ap, arith}
 use Rattle.ptb_options.specs.declared.request.Mode.{Mode}
@@ -38,25 +38,9 @@ of_answers : (i o n l k x a s : Bool) → l ≡ false → k ≡ false → x ≡ 
     → (i && o && not n && true) ≡ (i && o && not l && not k && not x && not a && not n && not s)
 of_answers i o n l k x a s p q r t u = grind arith
 
-of_text : (i o n l k x a s : Bool) → l ≡ true
+of_other : (i o n l k x a s : Bool) → (l || k || x || a || s) ≡ true
     → (i && o && not n && false) ≡ (i && o && not l && not k && not x && not a && not n && not s)
-of_text i o n l k x a s p = grind arith
-
-of_check : (i o n l k x a s : Bool) → k ≡ true
-    → (i && o && not n && false) ≡ (i && o && not l && not k && not x && not a && not n && not s)
-of_check i o n l k x a s p = grind arith
-
-of_chances : (i o n l k x a s : Bool) → x ≡ true
-    → (i && o && not n && false) ≡ (i && o && not l && not k && not x && not a && not n && not s)
-of_chances i o n l k x a s p = grind arith
-
-of_all : (i o n l k x a s : Bool) → a ≡ true
-    → (i && o && not n && false) ≡ (i && o && not l && not k && not x && not a && not n && not s)
-of_all i o n l k x a s p = grind arith
-
-of_seed : (i o n l k x a s : Bool) → s ≡ true
-    → (i && o && not n && false) ≡ (i && o && not l && not k && not x && not a && not n && not s)
-of_seed i o n l k x a s p = grind arith
+of_other i o n l k x a s p = grind arith
 
 -- ---- of the mode that the options ask for
 
@@ -66,19 +50,26 @@ module _ (t : Terminals) (o : Options) where
       of_answers t.input t.output (is_some o.answers) o.list o.check o.chances o.all
       (is_some o.seed) h.0.unlisted h.0.unchecked h.0.no_chances h.1 (ap is_some h.2)
   draws-wants (modes.Seeded seed) h =
-      of_seed t.input t.output (is_some o.answers) o.list o.check o.chances o.all (is_some o.seed) (ap is_some h.2)
+      of_other t.input t.output (is_some o.answers) o.list o.check o.chances o.all (is_some o.seed)
+      (let given : is_some o.seed ≡ true = ap is_some h.2 in grind arith)
   draws-wants (modes.All under after first form) h =
-      of_all t.input t.output (is_some o.answers) o.list o.check o.chances o.all (is_some o.seed) h.1
+      of_other t.input t.output (is_some o.answers) o.list o.check o.chances o.all (is_some o.seed)
+      (let given : o.all ≡ true = h.1 in grind arith)
   draws-wants (modes.Shares answers form) h =
-      of_all t.input t.output (is_some o.answers) o.list o.check o.chances o.all (is_some o.seed) h.1
+      of_other t.input t.output (is_some o.answers) o.list o.check o.chances o.all (is_some o.seed)
+      (let given : o.all ≡ true = h.1 in grind arith)
   draws-wants (modes.Sample seed runs form) h =
-      of_seed t.input t.output (is_some o.answers) o.list o.check o.chances o.all (is_some o.seed) (ap is_some h.2)
+      of_other t.input t.output (is_some o.answers) o.list o.check o.chances o.all (is_some o.seed)
+      (let given : is_some o.seed ≡ true = ap is_some h.2 in grind arith)
   draws-wants modes.List h =
-      of_text t.input t.output (is_some o.answers) o.list o.check o.chances o.all (is_some o.seed) h
+      of_other t.input t.output (is_some o.answers) o.list o.check o.chances o.all (is_some o.seed)
+      (let given : o.list ≡ true = h in grind arith)
   draws-wants modes.Check h =
-      of_check t.input t.output (is_some o.answers) o.list o.check o.chances o.all (is_some o.seed) h.1
+      of_other t.input t.output (is_some o.answers) o.list o.check o.chances o.all (is_some o.seed)
+      (let given : o.check ≡ true = h.1 in grind arith)
   draws-wants modes.Chances h =
-      of_chances t.input t.output (is_some o.answers) o.list o.check o.chances o.all (is_some o.seed) h.2
+      of_other t.input t.output (is_some o.answers) o.list o.check o.chances o.all (is_some o.seed)
+      (let given : o.chances ≡ true = h.2 in grind arith)
 
 -- a seed goes with the options of a run that is given neither answers nor a seed
 clash_drawn : (o : Options) (seed : ℕ) → RunsIt o → o.all ≡ false → o.answers ≡ None → clash o ≡ None
