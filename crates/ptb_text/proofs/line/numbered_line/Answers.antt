@@ -16,7 +16,8 @@ returns-then-is_all_blank c =
 
 pub returns-in-TooBig : goal.returns-in-TooBig
 returns-in-TooBig c =
-    after_too_big c.args.line.now (sym c.in_default.ensures.value) (sym c.is_all_blank.ensures ∙ c.if-is_all_blank.false)
+    after_too_big c.args.line.now (sym c.in_default.ensures.value)
+    (sym c.is_all_blank.ensures ∙ c.if-is_all_blank.false)
     (number_too_big c.args.line.now _ (found _ _ _ _ c.number_in_front-number.ensures.value c.in-TooBig.is))
 
 pub returns-in-Absent : goal.returns-in-Absent
