@@ -7,3 +7,4 @@ pub mod Inputs
 pub mod InputLaws
 pub mod Readers
 pub mod ReaderLaws
+pub mod Prelude

@@ -1,15 +1,10 @@
 // This file holds what has come of an input whose lines are asked for one by one.
 
-ghost use Rattle.std.specs.Prelude.{◌≡◌, ◌↔◌, ◌+◌, ◌<◌, ◌≤◌, true, false, [], length};
-ghost use Rattle.std.specs.Prelude.{slice_range, take, IsSome, IsTrue, IfOk, IfErr, IfSome, MatchBool};
-ghost use Rattle.std.specs.Borrow.{sem};
-ghost use Rattle.std.specs.Io.BufRead.{Rests};
-ghost use Rattle.ptb_text.specs.Lines.{line_limit};
-ghost use Rattle.ptb_devices.specs.CutLines.{kept_bytes, IsLine};
+ghost use Rattle.std.specs.Prelude.{◌≡◌, ◌↔◌, ◌+◌, ◌<◌, ◌≤◌, true, false, [], length, slice_range, take, IsSome};
+ghost use Rattle.std.specs.Prelude.{IsTrue, IfOk, IfErr, IfSome, MatchBool};
+ghost use Rattle.ptb_devices.specs.Prelude.{sem, Rests, line_limit, kept_bytes, IsLine, Open, fresh_input, fault_at};
+ghost use Rattle.ptb_devices.specs.Prelude.{open_piece, input_now, CutsLine, CutsAll, TakesWhole, ReadsOn, Refuses};
 ghost use Rattle.ptb_devices.specs.contracts.line_buffer.LineBuffer.{the_row};
-ghost use Rattle.ptb_devices.specs.declared.line_buffer.InputEnd.TheVariants.{Open};
-ghost use Rattle.ptb_devices.specs.Inputs.{fresh_input, fault_at, open_piece, input_now};
-ghost use Rattle.ptb_devices.specs.Inputs.{CutsLine, CutsAll, TakesWhole, ReadsOn, Refuses};
 
 use crate::cutter::{LINE_LIMIT, LineCutter, stays};
 use crate::whole_input::{BUFFER_SIZE, INPUT_LIMIT};

@@ -1,16 +1,10 @@
 // This file has the input lines of a run, and the sources that give them.
 
-ghost use Rattle.std.specs.Prelude.{◌≡◌, ℕ, ◌+◌, ◌-◌, ◌<◌, ◌≤◌, List, [], ◌∷◌, ◌++◌, length, drop};
-ghost use Rattle.std.specs.Prelude.{take, Option, Some, IfOk, IfErr, IfNone, IfSome};
-ghost use Rattle.std.proofs.Common.{rules};
-ghost use Rattle.std.proofs.lemmas.Grind.{common_steps};
-ghost use Rattle.std.specs.Borrow.{sem};
-ghost use Rattle.std.specs.Io.BufRead.{Rests};
-ghost use Rattle.ptb_text.specs.Lines.{clean_line, line_limit};
-ghost use Rattle.ptb_devices.specs.CutLines.{IsClean};
-ghost use Rattle.ptb_text.specs.declared.device_fault.DeviceFault.{DeviceFault};
-ghost use Rattle.ptb_devices.specs.Sources.{Loses, NoneLeft, given_lines, ready_lines, LineList, Gives};
-ghost use Rattle.ptb_devices.specs.Sources.{IsSourceFault};
+ghost use Rattle.std.specs.Prelude.{◌≡◌, ℕ, ◌+◌, ◌-◌, ◌<◌, ◌≤◌, List, [], ◌∷◌, ◌++◌, length, drop, take, Option, Some};
+ghost use Rattle.std.specs.Prelude.{IfOk, IfErr, IfNone, IfSome};
+ghost use Rattle.ptb_devices.specs.Prelude.{rules, common_steps, sem, Rests, clean_line, line_limit, IsClean};
+ghost use Rattle.ptb_devices.specs.Prelude.{DeviceFault, Loses, NoneLeft, given_lines, ready_lines, LineList, Gives};
+ghost use Rattle.ptb_devices.specs.Prelude.{IsSourceFault};
 
 use crate::cutter::LineCutter;
 use ptb_text::DeviceFault;

@@ -1,11 +1,10 @@
 // This file has the screens, which show the bytes of a run.
 
-ghost use Rattle.std.specs.Prelude.{◌≡◌, ◌↔◌, ℕ, ◌≤◌, Bool, true, false, List, [], length, take};
-ghost use Rattle.std.specs.Prelude.{Option, Some, None, OnOk, OnErr, IfErr, IsErrOf, IsTrue};
+ghost use Rattle.std.specs.Prelude.{◌≡◌, ◌↔◌, ℕ, ◌≤◌, Bool, true, false, List, [], length, take, Option, Some, None};
+ghost use Rattle.std.specs.Prelude.{OnOk, OnErr, IfErr, IsErrOf, IsTrue};
 ghost use Rattle.std.specs.Borrow.{GName};
 ghost use Rattle.std.specs.Io.KnownBytes.{Appends};
-ghost use Rattle.ptb_text.specs.Device.{HasFailed, TakesSome};
-ghost use Rattle.ptb_devices.specs.Screens.{screen_writer, IsScreenFault};
+ghost use Rattle.ptb_devices.specs.Prelude.{HasFailed, TakesSome, screen_writer, IsScreenFault};
 
 use ptb_text::{DeviceFault, Write};
 use std::alloc::Global;

@@ -1,11 +1,8 @@
 // This file reads all the input lines of a run at once.
 
-ghost use Rattle.std.specs.Prelude.{◌≡◌, ◌+◌, ℕ, List, ◌++◌, Option, Some, OnOk};
-ghost use Rattle.std.specs.Prelude.{IfErr, IfOk, IfSome, IsErrOf, IsOk};
-ghost use Rattle.ptb_text.specs.Lines.{input_lines};
-ghost use Rattle.ptb_text.specs.Streams.{ReadsUpTo, reads_of};
-ghost use Rattle.ptb_devices.specs.CutLines.{last_line, Cuts, AddsLines};
-ghost use Rattle.ptb_devices.specs.Sources.{IsSourceFault};
+ghost use Rattle.std.specs.Prelude.{◌≡◌, ◌+◌, ℕ, List, ◌++◌, Option, Some, OnOk, IfErr, IfOk, IfSome, IsErrOf, IsOk};
+ghost use Rattle.ptb_devices.specs.Prelude.{input_lines, ReadsUpTo, reads_of, last_line, Cuts, AddsLines};
+ghost use Rattle.ptb_devices.specs.Prelude.{IsSourceFault};
 
 use crate::cutter::LineCutter;
 use crate::lines::Line;

@@ -20,3 +20,4 @@ pub mod Starts
 pub mod Translation
 pub mod Short
 pub mod Saved
+pub mod Prelude

@@ -49,3 +49,4 @@ pub mod Streams
 pub mod PlainRuns
 pub mod Noted
 pub mod SeededRuns
+pub mod Prelude

@@ -1,11 +1,7 @@
 // This file does whole runs.
 
 ghost use Rattle.std.specs.Prelude.{◌≡◌, ℕ, ℤ, List, Option, false, IfOk};
-ghost use Rattle.ptb_machine.specs.Representation.{Represents};
-ghost use Rattle.ptb_machine.specs.State.{first_state};
-ghost use Rattle.ptb_machine.specs.RunDevices.{run_devices};
-ghost use Rattle.ptb_machine.specs.Runs.{IsRun, IsRunToEnd};
-ghost use Rattle.ptb_machine.specs.Steps.{FitsProgram};
+ghost use Rattle.ptb_machine.specs.Prelude.{Represents, first_state, run_devices, IsRun, IsRunToEnd, FitsProgram};
 
 use crate::ending::Ending;
 use crate::fault::RunFault;

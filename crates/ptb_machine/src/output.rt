@@ -1,12 +1,8 @@
 // This file shows bytes of a run.
 
 ghost use Rattle.std.specs.Prelude.{◌≡◌};
-ghost use Rattle.ptb_expr.specs.Store.{Cells};
-ghost use Rattle.ptb_machine.specs.Actions.{goes_on, show as show_action};
-ghost use Rattle.ptb_machine.specs.Devices.{Devices, screen_state, with_screen, nothing_refused};
-ghost use Rattle.ptb_machine.specs.Traces.{trace, fresh_after};
-ghost use Rattle.ptb_machine.specs.Reports.{IsShown};
-ghost use Rattle.ptb_machine.specs.Stops.{Comes};
+ghost use Rattle.ptb_machine.specs.Prelude.{Cells, goes_on, show_action, Devices, screen_state, with_screen};
+ghost use Rattle.ptb_machine.specs.Prelude.{nothing_refused, trace, fresh_after, IsShown, Comes};
 
 use crate::stop::Stop;
 use ptb_devices::Screen;

@@ -1,12 +1,8 @@
 // This file gathers what a command shows, so that the screen gets it at once.
 
-ghost use Rattle.std.specs.Prelude.{◌≡◌, ◌↔◌, ◌≤◌, ◌+◌, ◌++◌, ◌∷◌, List, ℕ, [], length};
-ghost use Rattle.std.specs.Prelude.{IsTrue, IsFalse};
-ghost use Rattle.ptb_expr.specs.Store.{Cells};
-ghost use Rattle.ptb_machine.specs.Actions.{goes_on, show as show_action};
-ghost use Rattle.ptb_machine.specs.Devices.{Devices, screen_state, with_screen, nothing_refused};
-ghost use Rattle.ptb_machine.specs.Traces.{trace, with_due};
-ghost use Rattle.ptb_machine.specs.Stops.{Comes};
+ghost use Rattle.std.specs.Prelude.{◌≡◌, ◌↔◌, ◌≤◌, ◌+◌, ◌++◌, ◌∷◌, List, ℕ, [], length, IsTrue, IsFalse};
+ghost use Rattle.ptb_machine.specs.Prelude.{Cells, goes_on, show_action, Devices, screen_state, with_screen};
+ghost use Rattle.ptb_machine.specs.Prelude.{nothing_refused, trace, with_due, Comes};
 
 use crate::output::show;
 use crate::stop::Stop;

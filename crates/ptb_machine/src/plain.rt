@@ -2,12 +2,8 @@
 
 ghost use Rattle.std.specs.Prelude.{◌≡◌, ◌⊎◌, ℕ, ℤ, List, [], IfOk, IfSome, IsErrOf};
 ghost use Rattle.std.specs.Io.KnownBytes.{Appends};
-ghost use Rattle.ptb_machine.specs.Play.{play};
-ghost use Rattle.ptb_machine.specs.Runs.{ending_alone};
-ghost use Rattle.ptb_machine.specs.PlainRuns.{GoesBy, HasLine, PlaysWith, ReadsLines};
-ghost use Rattle.ptb_machine.specs.PlainRuns.{WantsMemory};
-ghost use Rattle.ptb_machine.specs.SeededRuns.{IsDrawn, SeededLaws};
-ghost use Rattle.ptb_machine.specs.Streams.{reads_of, writes_of};
+ghost use Rattle.ptb_machine.specs.Prelude.{play, ending_alone, GoesBy, HasLine, PlaysWith, ReadsLines, WantsMemory};
+ghost use Rattle.ptb_machine.specs.Prelude.{IsDrawn, SeededLaws, reads_of, writes_of};
 
 use crate::complete_run::run_to_end;
 use crate::ending::Ending;

@@ -1,11 +1,8 @@
 // This file reports a fault.
 
 ghost use Rattle.std.specs.Prelude.{◌≡◌, ◌++◌, take, drop, IfOk};
-ghost use Rattle.ptb_expr.specs.Store.{Cells};
-ghost use Rattle.ptb_machine.specs.Act.{ending_of, report_bytes};
-ghost use Rattle.ptb_machine.specs.Devices.{Devices, screen_state, with_screen};
-ghost use Rattle.ptb_machine.specs.Traces.{trace};
-ghost use Rattle.ptb_machine.specs.Reports.{IsShown};
+ghost use Rattle.ptb_machine.specs.Prelude.{Cells, ending_of, report_bytes, Devices, screen_state, with_screen, trace};
+ghost use Rattle.ptb_machine.specs.Prelude.{IsShown};
 
 use crate::ending::Ending;
 use crate::fault_words::fault_line;

@@ -1,11 +1,9 @@
 // This file has the control stack: the loops and calls that are open.
 
-ghost use Rattle.std.specs.Prelude.{◌≡◌, ◌+◌, ◌<◌, ◌≤◌, ◌↔◌, [], ◌∷◌, ◌++◌, length, reverse, take};
-ghost use Rattle.std.specs.Prelude.{IfSome, IsSome, IsTrue, IsFalse, MatchBool, Some, None, option_map};
-ghost use Rattle.ptb_machine.specs.declared.stack.OpenLoop.{OpenLoop};
-ghost use Rattle.ptb_machine.specs.Stacks.{FindsOpen, call_of, loop_of, newest_loop, newest_return, without};
-ghost use Rattle.ptb_machine.specs.Stacks.{ClosesCall, ClosesNewer, ClosesNewest};
-ghost use Rattle.ptb_machine.specs.State.{nesting_limit};
+ghost use Rattle.std.specs.Prelude.{◌≡◌, ◌+◌, ◌<◌, ◌≤◌, ◌↔◌, [], ◌∷◌, ◌++◌, length, reverse, take, IfSome, IsSome};
+ghost use Rattle.std.specs.Prelude.{IsTrue, IsFalse, MatchBool, Some, None, option_map};
+ghost use Rattle.ptb_machine.specs.Prelude.{OpenLoop, FindsOpen, call_of, loop_of, newest_loop, newest_return, without};
+ghost use Rattle.ptb_machine.specs.Prelude.{ClosesCall, ClosesNewer, ClosesNewest, nesting_limit};
 
 use crate::location::Location;
 use arrayvec::ArrayVec;

@@ -1,11 +1,9 @@
 // This file finds the places of a program at which a run can continue.
 
 ghost use Rattle.std.specs.Prelude.{◌≡◌, ◌≤◌, [], Some, None, length, pos, slice_get};
-ghost use Rattle.ptb_text.specs.Statements.{text_limit};
 ghost use Rattle.std.specs.Ordering.{int_eq};
-ghost use Rattle.ptb_machine.specs.State.{Place, first_place, place_after, text_of};
-ghost use Rattle.ptb_machine.specs.Act.{statement};
-ghost use Rattle.ptb_machine.specs.Representation.{IsLineAt, PlacesAre};
+ghost use Rattle.ptb_machine.specs.Prelude.{text_limit, Place, first_place, place_after, text_of, statement, IsLineAt};
+ghost use Rattle.ptb_machine.specs.Prelude.{PlacesAre};
 
 use crate::command_order::command_laws;
 use crate::location::Location;

@@ -7,3 +7,4 @@ pub mod TreeRows
 pub mod TableRows
 pub mod SampledRunRows
 pub mod MistakeRows
+pub mod Prelude

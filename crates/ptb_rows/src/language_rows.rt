@@ -1,13 +1,8 @@
 // This file states that the worked rows of the language hold of the definitions.
 
-ghost use Rattle.ptb_rows.specs.LoadingRows.{LoadingRows, WordRows};
-ghost use Rattle.ptb_rows.specs.ExpressionRows.{ValueRows};
-ghost use Rattle.ptb_rows.specs.PlayRows.{AnswerRows, PrintRows, InputRows, LoopRows};
-ghost use Rattle.ptb_rows.specs.PlayRows.{RunFaultRows, ArrayRows, LongRows, StepRows};
-ghost use Rattle.ptb_rows.specs.TreeRows.{TreeRows, ReportRows};
-ghost use Rattle.ptb_rows.specs.TableRows.{TableRows};
-ghost use Rattle.ptb_rows.specs.SampledRunRows.{SampledRunRows};
-ghost use Rattle.ptb_rows.specs.MistakeRows.{MistakeRows};
+ghost use Rattle.ptb_rows.specs.Prelude.{LoadingRows, WordRows, ValueRows, AnswerRows, PrintRows, InputRows, LoopRows};
+ghost use Rattle.ptb_rows.specs.Prelude.{RunFaultRows, ArrayRows, LongRows, StepRows, TreeRows, ReportRows, TableRows};
+ghost use Rattle.ptb_rows.specs.Prelude.{SampledRunRows, MistakeRows};
 
 /// Worked rows of loading and listing.
 #[tactic(auto, using(crate::proofs::LoadingRows::loading_rows))]

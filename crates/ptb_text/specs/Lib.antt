@@ -16,3 +16,4 @@ pub use Rattle.ptb_text.specs.Digits
 pub use Rattle.ptb_text.specs.CursorState
 pub use Rattle.ptb_text.specs.Words
 pub use Rattle.ptb_text.specs.Finding
+pub mod Prelude

@@ -1,15 +1,11 @@
 // This file has a cursor over a text, which takes what is there piece by piece.
 
-ghost use Rattle.std.specs.Prelude.{◌≡◌, ℕ, ◌+◌, ◌<◌, ◌≤◌, length, if◌then◌else◌, Some, None};
-ghost use Rattle.std.specs.Prelude.{IsTrue, IsFalse, IsSome, IsNone, IfSome, option_map, take, min};
-ghost use Rattle.std.specs.Prelude.{position, ◌==◌};
-ghost use Rattle.std.specs.List.{prefix_len};
-ghost use Rattle.ptb_text.specs.CursorState.{CursorState, bytes_left};
-ghost use Rattle.ptb_text.specs.Digits.{is_digit, digits_value};
-ghost use Rattle.ptb_text.specs.Finding.{past_byte, StandsNext};
-ghost use Rattle.ptb_text.specs.Words.{past_blanks, next_byte_at, is_over, token_at, pair_at};
-ghost use Rattle.ptb_text.specs.Words.{letter_at, number_at, is_number, quotation_at, quotation_of};
-ghost use Rattle.ptb_text.specs.Words.{is_text, IsPieceFrom, word_at, IsWordOf};
+ghost use Rattle.std.specs.Prelude.{◌≡◌, ℕ, ◌+◌, ◌<◌, ◌≤◌, length, if◌then◌else◌, Some, None, IsTrue, IsFalse, IsSome};
+ghost use Rattle.std.specs.Prelude.{IsNone, IfSome, option_map, take, min, position, ◌==◌};
+ghost use Rattle.ptb_text.specs.Prelude.{prefix_len, CursorState, bytes_left, is_digit, digits_value, past_byte};
+ghost use Rattle.ptb_text.specs.Prelude.{StandsNext, past_blanks, next_byte_at, is_over, token_at, pair_at, letter_at};
+ghost use Rattle.ptb_text.specs.Prelude.{number_at, is_number, quotation_at, quotation_of, is_text, IsPieceFrom};
+ghost use Rattle.ptb_text.specs.Prelude.{word_at, IsWordOf};
 
 use crate::letter::Letter;
 use crate::spelling::table_word_at;

@@ -1,12 +1,11 @@
 // This file has readers and writers, which count how often they have failed; readers count their
 // bytes, too.
 
-ghost use Rattle.std.specs.Prelude.{◌≡◌, ℕ, ◌<◌, ◌≤◌, List, length, take, Option, Some, IfOk, OnOk};
-ghost use Rattle.std.specs.Prelude.{◌-◌, IfErr, IsOk, OnErr};
+ghost use Rattle.std.specs.Prelude.{◌≡◌, ℕ, ◌<◌, ◌≤◌, List, length, take, Option, Some, IfOk, OnOk, ◌-◌, IfErr, IsOk};
+ghost use Rattle.std.specs.Prelude.{OnErr};
 ghost use Rattle.std.specs.Io.KnownBytes.{Keeps, Appends, ReadConsumes};
-ghost use Rattle.ptb_text.specs.Device.{CountsFaults, HasFailed, TakesSome, TakesSurely};
-ghost use Rattle.ptb_text.specs.Device.{CountsBytes, DeviceTakes, IsReliableDevice};
-ghost use Rattle.ptb_text.specs.Device.{device_inner, failure_count, given_count};
+ghost use Rattle.ptb_text.specs.Prelude.{CountsFaults, HasFailed, TakesSome, TakesSurely, CountsBytes, DeviceTakes};
+ghost use Rattle.ptb_text.specs.Prelude.{IsReliableDevice, device_inner, failure_count, given_count};
 
 use crate::byte_streams::{ByteSink, ByteSource};
 use crate::device_fault::DeviceFault;

@@ -1,13 +1,10 @@
 // This file loads a program text: it reads the bytes, and enters the lines one after the other.
 
-ghost use Rattle.std.specs.Prelude.{◌≡◌, ◌<◌, ◌≤◌, ◌==◌, [], ◌∷◌, length, map};
-ghost use Rattle.std.specs.Prelude.{IfErr, IfOk, IfSome, IsOk, position, take, vec_len};
+ghost use Rattle.std.specs.Prelude.{◌≡◌, ◌<◌, ◌≤◌, ◌==◌, [], ◌∷◌, length, map, IfErr, IfOk, IfSome, IsOk, position};
+ghost use Rattle.std.specs.Prelude.{take, vec_len};
 ghost use Rattle.std.specs.Str.Lines.{strip_carriage_return};
-ghost use Rattle.ptb_text.specs.Entry.{IsLineFault};
-ghost use Rattle.ptb_text.specs.Lines.{lines, tab_as_space};
-ghost use Rattle.ptb_text.specs.Loading.{FailsToLoad, HasTextAt, Loads, ReadsProgram};
-ghost use Rattle.ptb_text.specs.Statements.{IsMemorySize, after_lines, program_limit};
-ghost use Rattle.ptb_text.specs.Streams.{reads_of};
+ghost use Rattle.ptb_text.specs.Prelude.{IsLineFault, lines, tab_as_space, FailsToLoad, HasTextAt, Loads, ReadsProgram};
+ghost use Rattle.ptb_text.specs.Prelude.{IsMemorySize, after_lines, program_limit, reads_of};
 
 use crate::allowance::{Allowance, Piece};
 use crate::{LoadFault, Program, Read};

@@ -1,20 +1,12 @@
 // This file has the program: the texts of its statements under their numbers.
 
-ghost use Rattle.std.specs.Prelude.{◌≡◌, ℕ, ℤ, ◌+◌, ◌<◌, ◌≤◌, ◌^◌, List, [], Some, None, length};
-ghost use Rattle.std.specs.Prelude.{IsOk, IfOk, IfErr, OnOk, OnErr, IsSome, IsNone, IfSome, OnSome};
-ghost use Rattle.std.specs.Prelude.{IsErrOf, vec_capacity, vec_len};
+ghost use Rattle.std.specs.Prelude.{◌≡◌, ℕ, ℤ, ◌+◌, ◌<◌, ◌≤◌, ◌^◌, List, [], Some, None, length, IsOk, IfOk, IfErr};
+ghost use Rattle.std.specs.Prelude.{OnOk, OnErr, IsSome, IsNone, IfSome, OnSome, IsErrOf, vec_capacity, vec_len};
 ghost use Rattle.std.specs.Prelude.{option_map, pos, ◌<ℤ◌, ◌-◌, IsTrue, ◌↔◌, slice_get, take};
-ghost use Rattle.std.specs.List.{splice};
-ghost use Rattle.std.specs.Option.{option_copied};
-ghost use Rattle.ptb_text.specs.Entry.{Enters, IsLineFault};
-ghost use Rattle.ptb_text.specs.Statements.{HasText, IsMemorySize, IsSound, IsText, after_line};
-ghost use Rattle.ptb_text.specs.Statements.{cost};
-ghost use Rattle.ptb_text.specs.Statements.{first_number, if_room, is_statement, number_above};
-ghost use Rattle.ptb_text.specs.Statements.{size_of, text_limit, text_under};
-ghost use Rattle.ptb_text.specs.Digits.{number_limit};
-ghost use Rattle.ptb_text.specs.Statements.{with_text, without_number};
-ghost use Rattle.ptb_text.specs.Places.{IsAt, IsGapFor, statement_at};
-ghost use Rattle.ptb_text.specs.Program.{laid_out, lengths, texts_length};
+ghost use Rattle.ptb_text.specs.Prelude.{splice, option_copied, Enters, IsLineFault, HasText, IsMemorySize, IsSound};
+ghost use Rattle.ptb_text.specs.Prelude.{IsText, after_line, cost, first_number, if_room, is_statement, number_above};
+ghost use Rattle.ptb_text.specs.Prelude.{size_of, text_limit, text_under, number_limit, with_text, without_number};
+ghost use Rattle.ptb_text.specs.Prelude.{IsAt, IsGapFor, statement_at, laid_out, lengths, texts_length};
 
 use crate::LoadFault;
 use crate::line::numbered_line;

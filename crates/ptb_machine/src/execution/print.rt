@@ -1,19 +1,11 @@
 // This file shows what the operations of a command show.
 
-ghost use Rattle.std.specs.Prelude.{◌≡◌, ◌+◌, ◌-◌, ◌≤◌, ◌++◌, ◌∷◌, [], ℕ, ℤ, Bool, List, length, take};
-ghost use Rattle.std.specs.Prelude.{drop, replicate};
-ghost use Rattle.std.specs.Fmt.{signed_decimal};
-ghost use Rattle.ptb_expr.specs.Store.{Cells};
-ghost use Rattle.ptb_expr.specs.Tree.{Tree};
-ghost use Rattle.ptb_expr.specs.Value.{or_fault};
-ghost use Rattle.ptb_machine.specs.Act.{first_width, padded_decimal, parts_action, width_of};
-ghost use Rattle.ptb_machine.specs.Actions.{goes_on, show, work_action};
-ghost use Rattle.ptb_machine.specs.Code.{AreStepsAt, FailsWithoutValue, IsIn, IsLiteralIn, bytes_in, literal_bytes};
-ghost use Rattle.ptb_machine.specs.Commands.{Part, Show, Width};
-ghost use Rattle.ptb_machine.specs.Devices.{Devices, nothing_refused, refused_answers, with_choices};
-ghost use Rattle.ptb_machine.specs.CommandIo.{due_trace, SameDevices};
-ghost use Rattle.ptb_machine.specs.Stops.{Comes};
-ghost use Rattle.ptb_machine.specs.Traces.{Trace, trace, with_due};
+ghost use Rattle.std.specs.Prelude.{◌≡◌, ◌+◌, ◌-◌, ◌≤◌, ◌++◌, ◌∷◌, [], ℕ, ℤ, Bool, List, length, take, drop, replicate};
+ghost use Rattle.ptb_machine.specs.Prelude.{signed_decimal, Cells, Tree, or_fault, first_width, padded_decimal};
+ghost use Rattle.ptb_machine.specs.Prelude.{parts_action, width_of, goes_on, show, work_action, AreStepsAt};
+ghost use Rattle.ptb_machine.specs.Prelude.{FailsWithoutValue, IsIn, IsLiteralIn, bytes_in, literal_bytes, Part, Show};
+ghost use Rattle.ptb_machine.specs.Prelude.{Width, Devices, nothing_refused, refused_answers, with_choices, due_trace};
+ghost use Rattle.ptb_machine.specs.Prelude.{SameDevices, Comes, Trace, trace, with_due};
 
 use crate::command_io::CommandIo;
 use crate::execution::values::short_value;

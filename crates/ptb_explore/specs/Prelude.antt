@@ -1,0 +1,38 @@
+-- This file passes on the definitions that the clauses of this crate cite most. It declares nothing.
+pub use Rattle.std.specs.Fmt.{signed_decimal}
+pub use Rattle.std.specs.Io.KnownBytes.{Appends}
+pub use Rattle.ptb_answers.specs.AnswerText.{answers_of, unmarked, in_form, item_text}
+pub use Rattle.ptb_answers.specs.Asked.{answers_in, bounds_in}
+pub use Rattle.ptb_answers.specs.Drawn.{answers_by, sampled_runs}
+pub use Rattle.ptb_answers.specs.Outcome.{Answers, bounds as bounds_of, is_open, Outcome, IsReader}
+pub use Rattle.ptb_answers.specs.Seeds.{generator_after, generator_of}
+pub use Rattle.ptb_answers.specs.declared.rules.Rules.{Rules}
+pub use Rattle.ptb_machine.specs.Play.{Finish, play}
+pub use Rattle.ptb_machine.specs.Questions.{most_answers}
+pub use Rattle.ptb_machine.specs.Representation.{Represents}
+pub use Rattle.ptb_machine.specs.State.{first_state}
+pub use Rattle.ptb_numbers.specs.Fractions.{Equals}
+pub use Rattle.ptb_text.specs.Device.{HasFailed, TakesSome}
+pub use Rattle.ptb_text.specs.Statements.{StoredProgram}
+pub use Rattle.ptb_explore.specs.Beginnings.{beginning_line, split_play, stopped, FindsBeginning, IsSameSearch, MovesTo}
+pub use Rattle.ptb_explore.specs.Beginnings.{BeginningLaws}
+pub use Rattle.ptb_explore.specs.Begun.{begun, item_of, items_of, AreEnds, BeginsWith, KeepsItem}
+pub use Rattle.ptb_explore.specs.Chances.{chance_of_all}
+pub use Rattle.ptb_explore.specs.Copies.{Agrees, AreCopies, PlaysOn, kept_runs, AreBeginnings, more_played, play_limit}
+pub use Rattle.ptb_explore.specs.Copies.{WentBack, last_steps}
+pub use Rattle.ptb_explore.specs.Explorations.{AreCopiesAt, HasRunCopies, IsSameGame, NextPlays, game_of, play_of}
+pub use Rattle.ptb_explore.specs.Explorations.{most_of, IsSameListing, exploration, IsAdded, IsPlayed, finish_of}
+pub use Rattle.ptb_explore.specs.Explorations.{NextReports, Resumes}
+pub use Rattle.ptb_explore.specs.Laws.{ListingLaws, ReportLaws, ShareLaws, TreeLaws}
+pub use Rattle.ptb_explore.specs.Listing.{FailsToWrite, FailsOnlyToWrite, NextWrites, WritesRuns, less_one}
+pub use Rattle.ptb_explore.specs.Listing.{FailsAfterSome, FailsOnlyAfterSome}
+pub use Rattle.ptb_explore.specs.MarkedRuns.{states_bounds, IsMarkedRun, IsMarkedBeginning}
+pub use Rattle.ptb_explore.specs.Mismatch.{Explains, IsItemMismatch, IsRunMismatch, MismatchLaws, TakesItems}
+pub use Rattle.ptb_explore.specs.PlannedPlays.{PlayEnds, IsRunPrefix}
+pub use Rattle.ptb_explore.specs.Plans.{PlanEndsWith, IsFresh, IsPosition, front_at, IsTaken, IsTakenAlone, IsLastBelow}
+pub use Rattle.ptb_explore.specs.Plans.{AreAtBounds, HasPlan, PlansNext}
+pub use Rattle.ptb_explore.specs.Recorders.{recorded, choices_of}
+pub use Rattle.ptb_explore.specs.Report.{report}
+pub use Rattle.ptb_explore.specs.ReportText.{asked_items, field, report_ending, report_text}
+pub use Rattle.ptb_explore.specs.RunTree.{At, IsLast, Start, runs_left, tree, IsNextRun, IsRun, begins_with}
+pub use Rattle.ptb_explore.specs.Sampling.{SampleLaws, PlaysDrawn, WritesRun, WritesSample}
