@@ -4,3 +4,4 @@ pub mod Sources
 pub mod Opened
 pub mod Exits
 pub mod Messages
+pub mod Prelude

@@ -1,18 +1,13 @@
 // This file has what the arguments of the command line ask for, and what is answered to a usage
 // error.
 
-ghost use Rattle.std.specs.Prelude.{◌≡◌, ◌≤◌, IfErr, IfOk, IfSome, codes, map};
-ghost use Rattle.std.specs.Prelude.{is_ok, is_some, option_copied, string_bytes};
+ghost use Rattle.std.specs.Prelude.{◌≡◌, ◌≤◌, IfErr, IfOk, IfSome, codes, map, is_ok, is_some, option_copied};
+ghost use Rattle.std.specs.Prelude.{string_bytes};
 ghost use Rattle.std.specs.IoError.{error_kind};
-ghost use Rattle.clap.specs.Words.{first_of, kind_of};
-ghost use Rattle.ptb_options.specs.Options.{HasBound, HasMemorySize, RefusesOptions, entries_of};
-ghost use Rattle.ptb_options.specs.Options.{options_of};
-ghost use Rattle.ptb_options.specs.Statuses.{usage_status};
-ghost use Rattle.ptb_serve.specs.Statuses.{note_status};
-ghost use Rattle.ptb.specs.Exits.{AnswersOptions, AsksAt, ExitsBy, IsRefusedStatus};
-ghost use Rattle.ptb.specs.Exits.{IsUnreadStatus, by_seed, draws_seed, shown_status};
-ghost use Rattle.ptb.specs.Exits.{unread_status};
-ghost use Rattle.ptb_machine.specs.Streams.{reads_of, writes_of};
+ghost use Rattle.ptb.specs.Prelude.{first_of, kind_of, HasBound, HasMemorySize, RefusesOptions, entries_of};
+ghost use Rattle.ptb.specs.Prelude.{options_of, usage_status, note_status, AnswersOptions, AsksAt, ExitsBy};
+ghost use Rattle.ptb.specs.Prelude.{IsRefusedStatus, IsUnreadStatus, by_seed, draws_seed, shown_status};
+ghost use Rattle.ptb.specs.Prelude.{unread_status, reads_of, writes_of};
 
 use crate::console::Console;
 use crate::task::{Programs, Task, serve_task};

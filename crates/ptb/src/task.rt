@@ -1,11 +1,8 @@
 // This file serves a request for a program that is opened, and says what came of it.
 
-ghost use Rattle.std.specs.Prelude.{◌≡◌, ℕ, List, Option, Result, IfSome};
-ghost use Rattle.std.specs.Prelude.{option_copied};
-ghost use Rattle.ptb_serve.specs.declared.note.Note.{Note as NoteValue};
-ghost use Rattle.ptb_machine.specs.Streams.{reads_of, writes_of};
-ghost use Rattle.ptb.specs.Messages.{shortage_of};
-ghost use Rattle.ptb.specs.Opened.{ServesOpened, ServesTask, exit_status, no_lines};
+ghost use Rattle.std.specs.Prelude.{◌≡◌, ℕ, List, Option, Result, IfSome, option_copied};
+ghost use Rattle.ptb.specs.Prelude.{NoteValue, reads_of, writes_of, shortage_of, ServesOpened, ServesTask};
+ghost use Rattle.ptb.specs.Prelude.{exit_status, no_lines};
 
 use crate::console::Console;
 use crate::endings::Shortage;

@@ -8,3 +8,4 @@ pub mod TableLaws
 pub mod Planned
 pub mod Standing
 pub mod Waiting
+pub mod Prelude

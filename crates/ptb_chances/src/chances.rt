@@ -2,10 +2,7 @@
 
 ghost use Rattle.std.specs.Prelude.{◌≡◌, IfOk, OnOk, IsErrOf};
 ghost use Rattle.std.specs.Io.KnownBytes.{Appends};
-ghost use Rattle.ptb_text.specs.Device.{HasFailed, TakesSome};
-ghost use Rattle.ptb_machine.specs.Play.{play};
-ghost use Rattle.ptb_machine.specs.Questions.{most_answers};
-ghost use Rattle.ptb_explore.specs.Chances.{chances};
+ghost use Rattle.ptb_chances.specs.Prelude.{HasFailed, TakesSome, play, most_answers, chances};
 
 use crate::count::count_runs;
 use crate::watch::Watch;

@@ -2,14 +2,8 @@
 // together.
 
 ghost use Rattle.std.specs.Prelude.{◌≡◌, ◌<◌, ◌∷◌, IfOk, OnOk};
-ghost use Rattle.ptb_text.specs.Lines.{lines};
-ghost use Rattle.ptb_machine.specs.Play.{play};
-ghost use Rattle.ptb_machine.specs.Questions.{most_answers};
-ghost use Rattle.ptb_explore.specs.Chances.{last_line};
-ghost use Rattle.ptb_explore.specs.RunTree.{tree};
-ghost use Rattle.ptb_chances.specs.Accounts.{AddsRow, IsAccountOf};
-ghost use Rattle.ptb_chances.specs.Counted.{IsCounted, load_left};
-ghost use Rattle.ptb_chances.specs.Waiting.{planned, standings};
+ghost use Rattle.ptb_chances.specs.Prelude.{lines, play, most_answers, last_line, tree, AddsRow, IsAccountOf};
+ghost use Rattle.ptb_chances.specs.Prelude.{IsCounted, load_left, planned, standings};
 
 use crate::last_line::last_line;
 use crate::plays::{Console, Played};

@@ -4,9 +4,7 @@ ghost use Rattle.std.specs.Prelude.{◌≡◌, refl};
 ghost use Rattle.std.specs.Cmp.{on_total, on_equiv, eq_by_cmp_equiv, partial_equiv_from_equiv};
 ghost use Rattle.std.specs.Cmp.{partial_order_from_agreeing_total};
 ghost use Rattle.std.specs.Ordering.{on, as_partial_cmp, eq_by_cmp};
-ghost use Rattle.ptb_explore.specs.Chances.{rank, result_order};
-ghost use Rattle.ptb_chances.specs.Keys.{key_result};
-ghost use Rattle.ptb_chances.specs.Order.{result_order_total};
+ghost use Rattle.ptb_chances.specs.Prelude.{rank, result_order, key_result, result_order_total};
 
 use ptb_machine::Ending;
 use std::cmp::Ordering;

@@ -1,13 +1,9 @@
 // This file plays plans from their places.
 
-ghost use Rattle.std.specs.Prelude.{◌≡◌, ◌+◌, ◌-◌, ◌<◌, ◌≤◌, ℕ, [], None, false, true, drop, take};
-ghost use Rattle.std.specs.Prelude.{length, IfOk, OnOk};
-ghost use Rattle.ptb_answers.specs.Outcome.{is_open};
-ghost use Rattle.ptb_machine.specs.State.{State};
-ghost use Rattle.ptb_explore.specs.PlannedPlays.{run_from};
-ghost use Rattle.ptb_chances.specs.Continuations.{ComesTo, GoesOn};
-ghost use Rattle.ptb_chances.specs.Standing.{PlaysTo, SameEnd, StandsAt};
-ghost use Rattle.ptb_machine.specs.Steps.{FitsProgram, QuietTurns};
+ghost use Rattle.std.specs.Prelude.{◌≡◌, ◌+◌, ◌-◌, ◌<◌, ◌≤◌, ℕ, [], None, false, true, drop, take, length, IfOk};
+ghost use Rattle.std.specs.Prelude.{OnOk};
+ghost use Rattle.ptb_chances.specs.Prelude.{is_open, State, run_from, ComesTo, GoesOn, PlaysTo, SameEnd, StandsAt};
+ghost use Rattle.ptb_chances.specs.Prelude.{FitsProgram, QuietTurns};
 
 use crate::last_line::last_lines;
 use crate::planned::PlanChooser;

@@ -1,13 +1,8 @@
 // This file writes the table of a tally.
 
 ghost use Rattle.std.specs.Prelude.{◌≡◌, ◌++◌, map, IfOk, OnOk};
-ghost use Rattle.ptb_numbers.specs.Fractions.{lowest};
-ghost use Rattle.ptb_numbers.specs.Decimals.{decimals};
-ghost use Rattle.ptb_numbers.specs.Lowest.{ratio_of};
-ghost use Rattle.ptb_explore.specs.ReportText.{field};
-ghost use Rattle.ptb_explore.specs.Chances.{ratio_text, row_text, table_text};
-ghost use Rattle.ptb_chances.specs.Accounts.{ResultsRise, reduced};
-ghost use Rattle.ptb_chances.specs.Keys.{key_result, result_text, row_of_share, share_text};
+ghost use Rattle.ptb_chances.specs.Prelude.{lowest, decimals, ratio_of, field, ratio_text, row_text, table_text};
+ghost use Rattle.ptb_chances.specs.Prelude.{ResultsRise, reduced, key_result, result_text, row_of_share, share_text};
 
 use crate::result_key::ResultKey;
 use crate::tally::{Share, Tally};

@@ -1,15 +1,11 @@
 // This file has what is left to be played of all runs: where plays are, with the chance and the
 // number of the plays that have come there.
 
-ghost use Rattle.std.specs.Prelude.{◌≡◌, ℕ, ◌<ℤ◌, ◌≤ℤ◌, pos, false, List, [], ◌∷◌, ◌++◌, map};
-ghost use Rattle.std.specs.Prelude.{unsigned_abs, Option, IsTrue, ◌+◌, ◌<◌, IfOk, OnOk, IfSome};
-ghost use Rattle.std.specs.Prelude.{IfNone, ℤ};
-ghost use Rattle.ptb_machine.specs.Configuration.{Configuration};
-ghost use Rattle.ptb_machine.specs.Representation.{Represents};
-ghost use Rattle.ptb_machine.specs.State.{first_state};
-ghost use Rattle.ptb_numbers.specs.Fractions.{Equals, plus};
-ghost use Rattle.ptb_chances.specs.Waiting.{after_answer, first_standing, gone_to, planned, standings};
-ghost use Rattle.ptb_chances.specs.Waiting.{Puts, PutsAnswers, states_left, Takes, unplanned};
+ghost use Rattle.std.specs.Prelude.{◌≡◌, ℕ, ◌<ℤ◌, ◌≤ℤ◌, pos, false, List, [], ◌∷◌, ◌++◌, map, unsigned_abs, Option};
+ghost use Rattle.std.specs.Prelude.{IsTrue, ◌+◌, ◌<◌, IfOk, OnOk, IfSome, IfNone, ℤ};
+ghost use Rattle.ptb_chances.specs.Prelude.{Configuration, Represents, first_state, Equals, plus, after_answer};
+ghost use Rattle.ptb_chances.specs.Prelude.{first_standing, gone_to, planned, standings, Puts, PutsAnswers};
+ghost use Rattle.ptb_chances.specs.Prelude.{states_left, Takes, unplanned};
 
 use ptb_machine::{Player, SavedMachine};
 use ptb_numbers::{Fraction, Natural};

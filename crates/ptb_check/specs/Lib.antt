@@ -3,3 +3,4 @@ pub mod Mistakes
 pub mod CodeMistakes
 pub mod WrittenMistakes
 pub mod Laws
+pub mod Prelude

@@ -1,12 +1,8 @@
 // This file finds the mistake of a command by its code.
 
 ghost use Rattle.std.specs.Prelude.{◌≡◌, ℕ, List};
-ghost use Rattle.ptb_machine.specs.Code.{steps_at};
-ghost use Rattle.ptb_machine.specs.Commands.{command_at};
-ghost use Rattle.ptb_machine.specs.Translation.{IsTranslated};
-ghost use Rattle.ptb_expr.specs.Written.{first_fail, only_number};
-ghost use Rattle.ptb_check.specs.CodeMistakes.{code_mistake, destination_fail, part_fail};
-ghost use Rattle.ptb_check.specs.Mistakes.{command_mistake, jump_mistake};
+ghost use Rattle.ptb_check.specs.Prelude.{steps_at, command_at, IsTranslated, first_fail, only_number, code_mistake};
+ghost use Rattle.ptb_check.specs.Prelude.{destination_fail, part_fail, command_mistake, jump_mistake};
 
 use crate::laws::code_mistake_laws;
 use ptb_expr::{Fault, FaultKind, Step};

@@ -16,3 +16,4 @@ pub mod LentReports
 pub mod Laws
 pub mod Beginnings
 pub mod Sampling
+pub mod Prelude

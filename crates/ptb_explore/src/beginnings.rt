@@ -1,18 +1,12 @@
 // This file finds the lists of answers that split the runs of a program, and writes them.
 
-ghost use Rattle.std.specs.Prelude.{◌≡◌, ◌≤◌, ℕ, Ok, None, [], true, false, length};
-ghost use Rattle.std.specs.Prelude.{IfOk, OnOk, OnErr, IsErrOf, IsTrue};
-ghost use Rattle.ptb_answers.specs.Outcome.{Answers, bounds as bounds_of, is_open};
-ghost use Rattle.ptb_text.specs.Device.{HasFailed};
-ghost use Rattle.ptb_answers.specs.Asked.{answers_in, bounds_in};
-ghost use Rattle.ptb_explore.specs.Recorders.{recorded};
-ghost use Rattle.ptb_explore.specs.Beginnings.{beginning_line, split_play, stopped};
-ghost use Rattle.ptb_explore.specs.Beginnings.{FindsBeginning, MovesTo};
-ghost use Rattle.ptb_explore.specs.Copies.{Agrees, AreCopies, PlaysOn, kept_runs};
-ghost use Rattle.ptb_explore.specs.Explorations.{AreCopiesAt, IsSameGame, NextPlays, game_of};
-ghost use Rattle.ptb_explore.specs.Listing.{NextWrites, WritesRuns};
-ghost use Rattle.ptb_explore.specs.Plans.{PlanEndsWith, IsFresh, IsPosition, front_at};
-ghost use Rattle.ptb_explore.specs.RunTree.{At, IsLast, Start, runs_left};
+ghost use Rattle.std.specs.Prelude.{◌≡◌, ◌≤◌, ℕ, Ok, None, [], true, false, length, IfOk, OnOk, OnErr, IsErrOf};
+ghost use Rattle.std.specs.Prelude.{IsTrue};
+ghost use Rattle.ptb_explore.specs.Prelude.{Answers, bounds_of, is_open, HasFailed, answers_in, bounds_in, recorded};
+ghost use Rattle.ptb_explore.specs.Prelude.{beginning_line, split_play, stopped, FindsBeginning, MovesTo, Agrees};
+ghost use Rattle.ptb_explore.specs.Prelude.{AreCopies, PlaysOn, kept_runs, AreCopiesAt, IsSameGame, NextPlays};
+ghost use Rattle.ptb_explore.specs.Prelude.{game_of, NextWrites, WritesRuns, PlanEndsWith, IsFresh, IsPosition};
+ghost use Rattle.ptb_explore.specs.Prelude.{front_at, At, IsLast, Start, runs_left};
 
 use crate::fault::ExploreFault;
 use crate::plan::{Position, plan_next};

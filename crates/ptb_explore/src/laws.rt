@@ -1,17 +1,9 @@
 // This file states that the laws hold of the definitions.
 
 ghost use Rattle.std.specs.Prelude.{ℕ, ◌<◌, List};
-ghost use Rattle.ptb_text.specs.Statements.{StoredProgram};
-ghost use Rattle.ptb_answers.specs.Outcome.{Answers, Outcome, IsReader};
-ghost use Rattle.ptb_answers.specs.declared.rules.Rules.{Rules};
-ghost use Rattle.ptb_machine.specs.Play.{Finish, play};
-ghost use Rattle.ptb_machine.specs.Questions.{most_answers};
-ghost use Rattle.ptb_numbers.specs.Fractions.{Equals};
-ghost use Rattle.ptb_explore.specs.RunTree.{tree};
-ghost use Rattle.ptb_explore.specs.Beginnings.{BeginningLaws};
-ghost use Rattle.ptb_explore.specs.Chances.{chance_of_all};
-ghost use Rattle.ptb_explore.specs.Laws.{ListingLaws, ReportLaws, ShareLaws, TreeLaws};
-ghost use Rattle.ptb_explore.specs.Sampling.{SampleLaws};
+ghost use Rattle.ptb_explore.specs.Prelude.{StoredProgram, Answers, Outcome, IsReader, Rules, Finish, play};
+ghost use Rattle.ptb_explore.specs.Prelude.{most_answers, Equals, tree, BeginningLaws, chance_of_all, ListingLaws};
+ghost use Rattle.ptb_explore.specs.Prelude.{ReportLaws, ShareLaws, TreeLaws, SampleLaws};
 
 use ptb_machine::run_laws;
 

@@ -1,11 +1,8 @@
 // This file writes the reports of all runs.
 
 ghost use Rattle.std.specs.Prelude.{◌≡◌, ◌≤◌, ℕ, IsErrOf};
-ghost use Rattle.ptb_text.specs.Device.{HasFailed};
-ghost use Rattle.ptb_explore.specs.Explorations.{play_of, most_of};
-ghost use Rattle.ptb_explore.specs.Listing.{less_one, NextWrites, WritesRuns};
-ghost use Rattle.ptb_explore.specs.Report.{report};
-ghost use Rattle.ptb_explore.specs.RunTree.{runs_left};
+ghost use Rattle.ptb_explore.specs.Prelude.{HasFailed, play_of, most_of, less_one, NextWrites, WritesRuns, report};
+ghost use Rattle.ptb_explore.specs.Prelude.{runs_left};
 
 use crate::explorer::Explorer;
 use crate::fault::ExploreFault;

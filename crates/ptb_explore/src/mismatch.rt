@@ -1,15 +1,9 @@
 // This file finds why the items of a list that was played are no run, or why no run begins with them.
 
 ghost use Rattle.std.specs.Prelude.{◌≡◌, ◌≤◌, [], length, take, List, ℕ, IfSome, IfNone, true};
-ghost use Rattle.ptb_answers.specs.Outcome.{Answers, Outcome, IsReader};
-ghost use Rattle.ptb_answers.specs.AnswerText.{answers_of};
-ghost use Rattle.ptb_answers.specs.Asked.{bounds_in};
-ghost use Rattle.ptb_machine.specs.Play.{Finish};
-ghost use Rattle.ptb_explore.specs.MarkedRuns.{states_bounds};
-ghost use Rattle.ptb_explore.specs.Mismatch.{IsItemMismatch, IsRunMismatch, MismatchLaws, TakesItems};
-ghost use Rattle.ptb_explore.specs.Plans.{IsTaken, IsTakenAlone};
-ghost use Rattle.ptb_explore.specs.PlannedPlays.{PlayEnds};
-ghost use Rattle.ptb_explore.specs.Recorders.{choices_of};
+ghost use Rattle.ptb_explore.specs.Prelude.{Answers, Outcome, IsReader, answers_of, bounds_in, Finish, states_bounds};
+ghost use Rattle.ptb_explore.specs.Prelude.{IsItemMismatch, IsRunMismatch, MismatchLaws, TakesItems, IsTaken};
+ghost use Rattle.ptb_explore.specs.Prelude.{IsTakenAlone, PlayEnds, choices_of};
 
 use crate::recorder::Recorder;
 use ptb_answers::{Asked, Marked};

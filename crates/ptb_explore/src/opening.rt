@@ -1,18 +1,10 @@
 // This file opens explorers: before the first of their runs, or at one of them.
 
 ghost use Rattle.std.specs.Prelude.{◌≡◌, List, true, [], IfOk, OnOk, IsErrOf};
-ghost use Rattle.ptb_answers.specs.AnswerText.{answers_of, unmarked};
-ghost use Rattle.ptb_answers.specs.Outcome.{Answers, bounds as bounds_of};
-ghost use Rattle.ptb_machine.specs.Play.{play};
-ghost use Rattle.ptb_machine.specs.Questions.{most_answers};
-ghost use Rattle.ptb_answers.specs.Asked.{answers_in, bounds_in};
-ghost use Rattle.ptb_explore.specs.Copies.{AreBeginnings, AreCopies};
-ghost use Rattle.ptb_explore.specs.Explorations.{exploration, game_of, play_of};
-ghost use Rattle.ptb_explore.specs.Explorations.{IsAdded, IsPlayed, IsSameGame};
-ghost use Rattle.ptb_explore.specs.Laws.{TreeLaws};
-ghost use Rattle.ptb_explore.specs.MarkedRuns.{IsMarkedRun, IsMarkedBeginning};
-ghost use Rattle.ptb_explore.specs.Mismatch.{IsItemMismatch, IsRunMismatch};
-ghost use Rattle.ptb_explore.specs.RunTree.{At, IsNextRun, IsRun, Start, begins_with};
+ghost use Rattle.ptb_explore.specs.Prelude.{answers_of, unmarked, Answers, bounds_of, play, most_answers, answers_in};
+ghost use Rattle.ptb_explore.specs.Prelude.{bounds_in, AreBeginnings, AreCopies, exploration, game_of, play_of};
+ghost use Rattle.ptb_explore.specs.Prelude.{IsAdded, IsPlayed, IsSameGame, TreeLaws, IsMarkedRun, IsMarkedBeginning};
+ghost use Rattle.ptb_explore.specs.Prelude.{IsItemMismatch, IsRunMismatch, At, IsNextRun, IsRun, Start, begins_with};
 
 use crate::explorer::Explorer;
 use crate::fault::OpenFault;

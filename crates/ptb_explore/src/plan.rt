@@ -1,11 +1,8 @@
 // This file has the choice of the answers that the next run begins with.
 
-ghost use Rattle.std.specs.Prelude.{◌≡◌, pos, take, ◌<ℤ◌, slice_index_or};
-ghost use Rattle.std.specs.Prelude.{IfOk, IfSome, OnErr, OnSome, MatchOption};
-ghost use Rattle.ptb_answers.specs.AnswerText.{answers_of};
-ghost use Rattle.ptb_answers.specs.Asked.{answers_in, bounds_in};
-ghost use Rattle.ptb_explore.specs.Recorders.{recorded};
-ghost use Rattle.ptb_explore.specs.Plans.{IsLastBelow, AreAtBounds, HasPlan, PlansNext, IsFresh};
+ghost use Rattle.std.specs.Prelude.{◌≡◌, pos, take, ◌<ℤ◌, slice_index_or, IfOk, IfSome, OnErr, OnSome, MatchOption};
+ghost use Rattle.ptb_explore.specs.Prelude.{answers_of, answers_in, bounds_in, recorded, IsLastBelow, AreAtBounds};
+ghost use Rattle.ptb_explore.specs.Prelude.{HasPlan, PlansNext, IsFresh};
 
 use crate::recorder::Recorder;
 use ptb_answers::{Asked, Marked};

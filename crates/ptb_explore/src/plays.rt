@@ -1,12 +1,8 @@
 // This file plays runs of a listing, from their beginning or from where they are.
 
 ghost use Rattle.std.specs.Prelude.{◌≡◌, ◌-◌, ◌<◌, ◌+◌, ◌≤◌, false, [], length, drop, IfOk, OnOk, OnErr};
-ghost use Rattle.ptb_machine.specs.Play.{play};
-ghost use Rattle.ptb_explore.specs.Copies.{AreCopies, more_played, play_limit};
-ghost use Rattle.ptb_explore.specs.Explorations.{game_of, IsSameGame};
-ghost use Rattle.ptb_explore.specs.Plans.{IsFresh};
-ghost use Rattle.ptb_explore.specs.PlannedPlays.{PlayEnds, IsRunPrefix};
-ghost use Rattle.ptb_explore.specs.Recorders.{choices_of, recorded};
+ghost use Rattle.ptb_explore.specs.Prelude.{play, AreCopies, more_played, play_limit, game_of, IsSameGame, IsFresh};
+ghost use Rattle.ptb_explore.specs.Prelude.{PlayEnds, IsRunPrefix, choices_of, recorded};
 
 use crate::copies::Progress;
 use crate::runner::Runner;

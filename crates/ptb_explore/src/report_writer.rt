@@ -4,10 +4,9 @@ ghost use Rattle.std.specs.Prelude.{◌≡◌, ◌==◌, ◌+◌, ◌<◌, ◌�
 ghost use Rattle.std.specs.Prelude.{OnOk, OnErr, IsTrue, IsFalse, if◌then◌else◌, ℤ, Option};
 ghost use Rattle.std.specs.Fmt.{signed_decimal};
 ghost use Rattle.std.specs.Io.KnownBytes.{Appends};
-ghost use Rattle.ptb_text.specs.Device.{TakesSome, HasFailed};
-ghost use Rattle.ptb_answers.specs.AnswerText.{in_form, item_text};
-ghost use Rattle.ptb_explore.specs.ReportText.{asked_items, field, report_ending, report_text};
-ghost use Rattle.ptb_explore.specs.Begun.{begun, item_of, items_of, AreEnds, BeginsWith, KeepsItem};
+ghost use Rattle.ptb_explore.specs.Prelude.{TakesSome, HasFailed, in_form, item_text, asked_items, field};
+ghost use Rattle.ptb_explore.specs.Prelude.{report_ending, report_text, begun, item_of, items_of, AreEnds};
+ghost use Rattle.ptb_explore.specs.Prelude.{BeginsWith, KeepsItem};
 
 use crate::report_text::write_in_pieces;
 use arrayvec::ArrayVec;

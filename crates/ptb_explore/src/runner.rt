@@ -1,19 +1,11 @@
 // This file has what plays the runs of a listing, one after the other, and makes their reports.
 
-ghost use Rattle.std.specs.Prelude.{◌≡◌, ◌+◌, ◌<◌, ◌≤◌, false, Ok, [], length, drop};
-ghost use Rattle.std.specs.Prelude.{true, IfOk, OnOk, OnErr, IsTrue};
-ghost use Rattle.ptb_answers.specs.AnswerText.{answers_of};
-ghost use Rattle.ptb_answers.specs.Outcome.{is_open};
-ghost use Rattle.ptb_machine.specs.Play.{play};
-ghost use Rattle.ptb_answers.specs.Asked.{answers_in, bounds_in};
-ghost use Rattle.ptb_explore.specs.Copies.{Agrees, AreCopies, PlaysOn, WentBack};
-ghost use Rattle.ptb_explore.specs.Copies.{kept_runs, last_steps, play_limit};
-ghost use Rattle.ptb_explore.specs.Explorations.{game_of, finish_of, AreCopiesAt, IsSameGame};
-ghost use Rattle.ptb_explore.specs.Explorations.{NextPlays, NextReports};
-ghost use Rattle.ptb_explore.specs.PlannedPlays.{IsRunPrefix, PlayEnds};
-ghost use Rattle.ptb_explore.specs.Plans.{front_at, PlanEndsWith, IsFresh, IsPosition};
-ghost use Rattle.ptb_explore.specs.Recorders.{choices_of, recorded};
-ghost use Rattle.ptb_explore.specs.RunTree.{IsLast};
+ghost use Rattle.std.specs.Prelude.{◌≡◌, ◌+◌, ◌<◌, ◌≤◌, false, Ok, [], length, drop, true, IfOk, OnOk, OnErr, IsTrue};
+ghost use Rattle.ptb_explore.specs.Prelude.{answers_of, is_open, play, answers_in, bounds_in, Agrees, AreCopies};
+ghost use Rattle.ptb_explore.specs.Prelude.{PlaysOn, WentBack, kept_runs, last_steps, play_limit, game_of, finish_of};
+ghost use Rattle.ptb_explore.specs.Prelude.{AreCopiesAt, IsSameGame, NextPlays, NextReports, IsRunPrefix, PlayEnds};
+ghost use Rattle.ptb_explore.specs.Prelude.{front_at, PlanEndsWith, IsFresh, IsPosition, choices_of, recorded};
+ghost use Rattle.ptb_explore.specs.Prelude.{IsLast};
 
 use crate::copies::Copies;
 use crate::plan::{Position, plan_next};

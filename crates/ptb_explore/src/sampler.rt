@@ -1,15 +1,9 @@
 // This file writes the reports of a sample: runs that the words of a generator draw, one after the other.
 
 ghost use Rattle.std.specs.Prelude.{◌≡◌, ℕ, ℤ, List, Option, [], length, false, IfOk, IsErrOf, OnOk};
-ghost use Rattle.ptb_text.specs.Device.{HasFailed};
-ghost use Rattle.ptb_answers.specs.Drawn.{answers_by, sampled_runs};
-ghost use Rattle.ptb_answers.specs.Seeds.{generator_after, generator_of};
-ghost use Rattle.ptb_machine.specs.Representation.{Represents};
-ghost use Rattle.ptb_machine.specs.State.{first_state};
-ghost use Rattle.ptb_machine.specs.Play.{play};
-ghost use Rattle.ptb_machine.specs.Questions.{most_answers};
-ghost use Rattle.ptb_explore.specs.Report.{report};
-ghost use Rattle.ptb_explore.specs.Sampling.{PlaysDrawn, SampleLaws, WritesRun, WritesSample};
+ghost use Rattle.ptb_explore.specs.Prelude.{HasFailed, answers_by, sampled_runs, generator_after, generator_of};
+ghost use Rattle.ptb_explore.specs.Prelude.{Represents, first_state, play, most_answers, report, PlaysDrawn};
+ghost use Rattle.ptb_explore.specs.Prelude.{SampleLaws, WritesRun, WritesSample};
 
 use crate::fault::ExploreFault;
 use crate::report::word;

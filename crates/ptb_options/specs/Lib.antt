@@ -6,3 +6,4 @@ pub mod Options
 pub mod Statuses
 pub mod Messages
 pub mod WrongNumbers
+pub mod Prelude

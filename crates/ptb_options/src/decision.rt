@@ -1,15 +1,12 @@
 // This file decides what the arguments of the command line ask for.
 
-ghost use Rattle.std.specs.Prelude.{◌≡◌, ◌≤◌, pos, None, IfErr, IfOk, IfSome};
-ghost use Rattle.std.specs.Prelude.{option_map, unwrap_or, codes};
+ghost use Rattle.std.specs.Prelude.{◌≡◌, ◌≤◌, pos, None, IfErr, IfOk, IfSome, option_map, unwrap_or, codes};
 ghost use Rattle.std.specs.Option.{ForSome, option_copied};
-ghost use Rattle.ptb_options.specs.AnswerLists.{SpellsAnswers};
-ghost use Rattle.ptb_options.specs.ListMistakes.{IsListOf};
-ghost use Rattle.ptb_options.specs.Options.{Asks, AsksMode, HasBound, HasMemorySize, HasMistake, IsRulesOf};
-ghost use Rattle.ptb_options.specs.Options.{IsFirstMisspelled, IsSpelled, RefusesOptions, RefusesAnswers};
-ghost use Rattle.ptb_options.specs.Options.{RefusesIfGiven, SpellsIfGiven, WantsMemory, clash, clashes};
-ghost use Rattle.ptb_options.specs.Options.{entries_of, first_fault, form_of, is_given, options_of};
-ghost use Rattle.ptb_options.specs.declared.mistakes.ListOption.{ListOption};
+ghost use Rattle.ptb_options.specs.Prelude.{SpellsAnswers, IsListOf, Asks, AsksMode, HasBound, HasMemorySize};
+ghost use Rattle.ptb_options.specs.Prelude.{HasMistake, IsRulesOf, IsFirstMisspelled, IsSpelled, RefusesOptions};
+ghost use Rattle.ptb_options.specs.Prelude.{RefusesAnswers, RefusesIfGiven, SpellsIfGiven, WantsMemory, clash};
+ghost use Rattle.ptb_options.specs.Prelude.{clashes, entries_of, first_fault, form_of, is_given, options_of};
+ghost use Rattle.ptb_options.specs.Prelude.{ListOption};
 
 use crate::answers::{Answers, MarkedAnswers, parse_answers, parse_list};
 use crate::mistakes::{Bounds, ListOption, MisspelledList, Mistake, list_mistake};

@@ -1,14 +1,10 @@
 // This file finds the argument that clap refuses since its option takes a number, to say which number.
 
-ghost use Rattle.std.specs.Prelude.{◌≡◌, ◌↔◌, IsTrue, IfSome, Some, None, map, option_copied};
-ghost use Rattle.std.specs.Prelude.{slice_get, false};
+ghost use Rattle.std.specs.Prelude.{◌≡◌, ◌↔◌, IsTrue, IfSome, Some, None, map, option_copied, slice_get, false};
 ghost use Rattle.std.specs.Fmt.{WritesOnOk};
-ghost use Rattle.clap.specs.Words.{Accepts};
-ghost use Rattle.ptb_options.specs.Messages.{number_text, range_text};
-ghost use Rattle.ptb_options.specs.WrongNumbers.{HasNoWrongNumber, HasNoWrongValue};
-ghost use Rattle.ptb_options.specs.WrongNumbers.{IsNumberOption, IsNumberRange, IsWrongFor};
-ghost use Rattle.ptb_options.specs.WrongNumbers.{IsWrongNumber, IsWrongValue, NamesNoNumber};
-ghost use Rattle.ptb_options.specs.WrongNumbers.{option_word};
+ghost use Rattle.ptb_options.specs.Prelude.{Accepts, number_text, range_text, HasNoWrongNumber, HasNoWrongValue};
+ghost use Rattle.ptb_options.specs.Prelude.{IsNumberOption, IsNumberRange, IsWrongFor, IsWrongNumber, IsWrongValue};
+ghost use Rattle.ptb_options.specs.Prelude.{NamesNoNumber, option_word};
 
 use crate::command_line::{ARGS, ArgKind};
 use clap::builder::ValueParser;

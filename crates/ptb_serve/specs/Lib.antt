@@ -8,3 +8,4 @@ pub mod ListMismatches
 pub mod ServedRequests
 pub mod Loaded
 pub mod Promises
+pub mod Prelude

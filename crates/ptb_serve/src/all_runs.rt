@@ -1,19 +1,10 @@
 // This file has the listing of all runs of a program, each with its report.
 
-ghost use Rattle.std.specs.Prelude.{◌≡◌, ℕ, true, List, Option, None};
-ghost use Rattle.std.specs.Prelude.{IfErr, IfOk, IfSome, IsErrOf, OnOk};
-ghost use Rattle.ptb_answers.specs.declared.form.Marked.{Marked};
-ghost use Rattle.ptb_text.specs.Device.{HasFailed};
-ghost use Rattle.ptb_text.specs.Lines.{input_lines};
-ghost use Rattle.ptb_machine.specs.Play.{play};
-ghost use Rattle.ptb_explore.specs.Explorations.{exploration, play_of, most_of};
-ghost use Rattle.ptb_explore.specs.Listing.{WritesRuns};
-ghost use Rattle.ptb_explore.specs.Report.{report};
-ghost use Rattle.ptb_explore.specs.RunTree.{Front, Start, runs_left};
-ghost use Rattle.ptb_options.specs.declared.request.Mode.TheVariants.{All};
-ghost use Rattle.ptb_serve.specs.ListMismatches.{IsUnbegun};
-ghost use Rattle.ptb_serve.specs.Loaded.{ReadsInput, ServesProgram, TellsFailures, TellsMismatch};
-ghost use Rattle.ptb_serve.specs.Replies.{answers_under, first_front, front_note, is_share};
+ghost use Rattle.std.specs.Prelude.{◌≡◌, ℕ, true, List, Option, None, IfErr, IfOk, IfSome, IsErrOf, OnOk};
+ghost use Rattle.ptb_serve.specs.Prelude.{Marked, HasFailed, input_lines, play, exploration, play_of, most_of};
+ghost use Rattle.ptb_serve.specs.Prelude.{WritesRuns, report, Front, Start, runs_left, All, IsUnbegun, ReadsInput};
+ghost use Rattle.ptb_serve.specs.Prelude.{ServesProgram, TellsFailures, TellsMismatch, answers_under, first_front};
+ghost use Rattle.ptb_serve.specs.Prelude.{front_note, is_share};
 
 use crate::attempt::Attempt;
 use crate::note::Note;

@@ -3,14 +3,10 @@
 // mistakes.
 
 ghost use Rattle.std.specs.Prelude.{◌≡◌, IfSome, IsErrOf, None};
-ghost use Rattle.ptb_machine.specs.Play.{status};
-ghost use Rattle.ptb_machine.specs.Runs.{ending_alone};
-ghost use Rattle.ptb_machine.specs.Streams.{reads_of, writes_of};
-ghost use Rattle.ptb_serve.specs.Loaded.{IsRunStatus, ReadsInput, ServesProgram, TellsFailures};
-ghost use Rattle.ptb_serve.specs.Loaded.{TellsLine, TellsMismatch, line_of};
-ghost use Rattle.ptb_serve.specs.Promises.{FailsLoudly, ReadsOnlyWhatIsAsked, Served};
-ghost use Rattle.ptb_serve.specs.ReplyLaws.{ReplyLaws};
-ghost use Rattle.ptb_serve.specs.ServedRequests.{NeedsInput, outcome_of};
+ghost use Rattle.ptb_serve.specs.Prelude.{status, ending_alone, reads_of, writes_of, IsRunStatus, ReadsInput};
+ghost use Rattle.ptb_serve.specs.Prelude.{ServesProgram, TellsFailures, TellsLine, TellsMismatch, line_of};
+ghost use Rattle.ptb_serve.specs.Prelude.{FailsLoudly, ReadsOnlyWhatIsAsked, Served, ReplyLaws, NeedsInput};
+ghost use Rattle.ptb_serve.specs.Prelude.{outcome_of};
 
 use crate::all_runs::list_runs;
 use crate::attempt::Attempt;

@@ -1,13 +1,9 @@
 // This file has the lists of answers that split a program's runs.
 
 ghost use Rattle.std.specs.Prelude.{◌≡◌, ℕ, [], None, IsErrOf};
-ghost use Rattle.ptb_text.specs.Device.{HasFailed};
-ghost use Rattle.ptb_explore.specs.Beginnings.{beginning_line, split_play, stopped};
-ghost use Rattle.ptb_explore.specs.Listing.{WritesRuns};
-ghost use Rattle.ptb_explore.specs.RunTree.{Front, runs_left};
+ghost use Rattle.ptb_serve.specs.Prelude.{HasFailed, beginning_line, split_play, stopped, WritesRuns, Front};
+ghost use Rattle.ptb_serve.specs.Prelude.{runs_left, reads_of, writes_of, IsServed, IsServedOn};
 ghost use Rattle.ptb_options.specs.declared.request.Mode.TheVariants as modes;
-ghost use Rattle.ptb_machine.specs.Streams.{reads_of, writes_of};
-ghost use Rattle.ptb_serve.specs.Loaded.{IsServed, IsServedOn};
 
 use crate::note::Note;
 use ptb_explore::{Beginnings, ExploreFault, Form, write_beginnings};

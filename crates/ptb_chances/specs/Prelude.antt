@@ -1,0 +1,25 @@
+-- This file passes on the definitions that many clauses of this crate cite, from one place. It declares nothing.
+pub use Rattle.ptb_answers.specs.Outcome.{is_open}
+pub use Rattle.ptb_explore.specs.Chances.{chances, last_line, rank, result_order, ratio_text, row_text, table_text}
+pub use Rattle.ptb_explore.specs.PlannedPlays.{run_from}
+pub use Rattle.ptb_explore.specs.ReportText.{field}
+pub use Rattle.ptb_explore.specs.RunTree.{tree}
+pub use Rattle.ptb_machine.specs.Configuration.{Configuration}
+pub use Rattle.ptb_machine.specs.Play.{play}
+pub use Rattle.ptb_machine.specs.Questions.{most_answers}
+pub use Rattle.ptb_machine.specs.Representation.{Represents}
+pub use Rattle.ptb_machine.specs.State.{State, first_state}
+pub use Rattle.ptb_machine.specs.Steps.{FitsProgram, QuietTurns}
+pub use Rattle.ptb_numbers.specs.Decimals.{decimals}
+pub use Rattle.ptb_numbers.specs.Fractions.{lowest, Equals, plus}
+pub use Rattle.ptb_numbers.specs.Lowest.{ratio_of}
+pub use Rattle.ptb_text.specs.Device.{HasFailed, TakesSome}
+pub use Rattle.ptb_text.specs.Lines.{lines}
+pub use Rattle.ptb_chances.specs.Accounts.{AddsRow, IsAccountOf, ResultsRise, reduced}
+pub use Rattle.ptb_chances.specs.Continuations.{ComesTo, GoesOn}
+pub use Rattle.ptb_chances.specs.Counted.{IsCounted, load_left}
+pub use Rattle.ptb_chances.specs.Keys.{key_result, result_text, row_of_share, share_text}
+pub use Rattle.ptb_chances.specs.Order.{result_order_total}
+pub use Rattle.ptb_chances.specs.Standing.{PlaysTo, SameEnd, StandsAt}
+pub use Rattle.ptb_chances.specs.Waiting.{planned, standings, after_answer, first_standing, gone_to, Puts}
+pub use Rattle.ptb_chances.specs.Waiting.{PutsAnswers, states_left, Takes, unplanned}

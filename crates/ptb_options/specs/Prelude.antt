@@ -1,0 +1,12 @@
+-- This file passes on the definitions that many clauses of this crate cite, from one place. It declares nothing.
+pub use Rattle.clap.specs.Words.{Accepts}
+pub use Rattle.ptb_options.specs.AnswerLists.{SpellsAnswers}
+pub use Rattle.ptb_options.specs.ListMistakes.{IsListOf}
+pub use Rattle.ptb_options.specs.Messages.{number_text, range_text}
+pub use Rattle.ptb_options.specs.Options.{Asks, AsksMode, HasBound, HasMemorySize, HasMistake, IsRulesOf}
+pub use Rattle.ptb_options.specs.Options.{IsFirstMisspelled, IsSpelled, RefusesOptions, RefusesAnswers}
+pub use Rattle.ptb_options.specs.Options.{RefusesIfGiven, SpellsIfGiven, WantsMemory, clash, clashes, entries_of}
+pub use Rattle.ptb_options.specs.Options.{first_fault, form_of, is_given, options_of}
+pub use Rattle.ptb_options.specs.WrongNumbers.{HasNoWrongNumber, HasNoWrongValue, IsNumberOption, IsNumberRange}
+pub use Rattle.ptb_options.specs.WrongNumbers.{IsWrongFor, IsWrongNumber, IsWrongValue, NamesNoNumber, option_word}
+pub use Rattle.ptb_options.specs.declared.mistakes.ListOption.{ListOption}

@@ -1,0 +1,20 @@
+-- This file passes on the definitions that many clauses of this crate cite, from one place. It declares nothing.
+pub use Rattle.ptb_answers.specs.declared.form.Marked.{Marked}
+pub use Rattle.ptb_explore.specs.Beginnings.{beginning_line, split_play, stopped}
+pub use Rattle.ptb_explore.specs.Explorations.{exploration, play_of, most_of}
+pub use Rattle.ptb_explore.specs.Listing.{WritesRuns}
+pub use Rattle.ptb_explore.specs.Report.{report}
+pub use Rattle.ptb_explore.specs.RunTree.{Front, Start, runs_left}
+pub use Rattle.ptb_machine.specs.Play.{play, status}
+pub use Rattle.ptb_machine.specs.Runs.{ending_alone}
+pub use Rattle.ptb_machine.specs.Streams.{reads_of, writes_of}
+pub use Rattle.ptb_options.specs.declared.request.Mode.TheVariants.{All}
+pub use Rattle.ptb_text.specs.Device.{HasFailed}
+pub use Rattle.ptb_text.specs.Lines.{input_lines}
+pub use Rattle.ptb_serve.specs.ListMismatches.{IsUnbegun}
+pub use Rattle.ptb_serve.specs.Loaded.{ReadsInput, ServesProgram, TellsFailures, TellsMismatch, IsRunStatus}
+pub use Rattle.ptb_serve.specs.Loaded.{TellsLine, line_of, IsServed, IsServedOn}
+pub use Rattle.ptb_serve.specs.Promises.{FailsLoudly, ReadsOnlyWhatIsAsked, Served}
+pub use Rattle.ptb_serve.specs.Replies.{answers_under, first_front, front_note, is_share}
+pub use Rattle.ptb_serve.specs.ReplyLaws.{ReplyLaws}
+pub use Rattle.ptb_serve.specs.ServedRequests.{NeedsInput, outcome_of}
