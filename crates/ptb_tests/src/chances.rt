@@ -2,8 +2,8 @@
 
 use crate::shared::{OUT_OF_MEMORY, expect_same, loaded};
 use ptb_chances::{Unwatched, chances_text, write_chances};
-use ptb_machine::{Rules, ScreenFault};
-use ptb_text::Device;
+use ptb_machine::{Line, Rules, ScreenFault};
+use ptb_text::{Device, Program};
 use std::alloc::Global;
 use std::process::Abort;
 use std::test::Fail;
