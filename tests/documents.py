@@ -342,12 +342,16 @@ class Heads(unittest.TestCase):
     """The heads of files of definitions and of proofs name what is in them."""
 
     def test_definitions(self):
-        """The head of a file of definitions names one of them."""
+        """The head of a file of definitions names one of them. A prelude declares none, and passes on some."""
         for path in sources.files(ROOT, "specs"):
             text = sources.text_of(path)
             with self.subTest(os.path.relpath(path, ROOT)):
                 words = set(re.findall(r"[^\s,;:()`]+", sources.head(text)))
-                self.assertTrue(words & (sources.declared(text) | set(re.findall(r"\w+", "".join(PASSED_ON.findall(text))))))
+                passed_on = set(re.findall(r"\w+", "".join(PASSED_ON.findall(text))))
+                if path.endswith("/Prelude.antt"):
+                    self.assertTrue(passed_on and not sources.declared(text))
+                else:
+                    self.assertTrue(words & (sources.declared(text) | passed_on))
 
     def test_lemmas(self):
         """The head of a file of lemmas names the main ones."""
