@@ -18,6 +18,7 @@
 //! another), and on the devices of the crate below, which it passes on.
 #![tactic(auto)]
 
+mod advance;
 mod command_code;
 mod command_io;
 mod command_order;
@@ -37,7 +38,9 @@ mod output;
 mod pending_output;
 mod plain;
 mod player;
+mod position;
 mod program_code;
+mod program_translation;
 mod reads;
 mod registers;
 mod reports;
