@@ -22,6 +22,7 @@ mod advance;
 mod command_code;
 mod command_io;
 mod command_order;
+mod command_view;
 mod complete_run;
 mod ending;
 mod execution;
@@ -54,6 +55,7 @@ mod statements;
 mod stop;
 mod stop_result;
 mod translation;
+mod value_forms;
 
 pub use command_code::CommandCode;
 pub use command_io::CommandIo;
