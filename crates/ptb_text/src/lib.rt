@@ -23,6 +23,7 @@ mod listing;
 mod loader;
 mod output_buffer;
 mod program;
+mod program_edits;
 mod spelling;
 mod word;
 mod word_laws;

@@ -1,35 +1,28 @@
-// This file has the program: the texts of its statements under their numbers.
+// This file has the program: the texts of its statements under their numbers, and how they are found.
 
-ghost use Rattle.std.specs.Prelude.{◌≡◌, ℕ, ℤ, ◌+◌, ◌<◌, ◌≤◌, ◌^◌, List, [], Some, None, length, IsOk, IfOk, IfErr};
-ghost use Rattle.std.specs.Prelude.{OnOk, OnErr, IsSome, IsNone, IfSome, OnSome, IsErrOf, vec_capacity, vec_len};
-ghost use Rattle.std.specs.Prelude.{option_map, pos, ◌<ℤ◌, ◌-◌, IsTrue, ◌↔◌, slice_get, take};
-ghost use Rattle.ptb_text.specs.Prelude.{splice, option_copied, Enters, IsLineFault, HasText, IsMemorySize, IsSound};
-ghost use Rattle.ptb_text.specs.Prelude.{IsText, after_line, cost, first_number, if_room, is_statement, number_above};
-ghost use Rattle.ptb_text.specs.Prelude.{size_of, text_limit, text_under, number_limit, with_text, without_number};
-ghost use Rattle.ptb_text.specs.Prelude.{IsAt, IsGapFor, statement_at, laid_out, lengths, texts_length};
+ghost use Rattle.std.specs.Prelude.{◌≡◌, ℕ, ℤ, ◌+◌, ◌<◌, ◌≤◌, ◌^◌, List, [], Some, None, length, IfOk, IfErr, IsSome};
+ghost use Rattle.std.specs.Prelude.{IsNone, IfSome, OnSome, option_map, pos, ◌<ℤ◌, IsTrue, ◌↔◌, slice_get, take};
+ghost use Rattle.ptb_text.specs.Prelude.{option_copied, IsMemorySize, IsSound, IsText, cost, first_number};
+ghost use Rattle.ptb_text.specs.Prelude.{number_above, size_of, text_limit, text_under, number_limit, IsAt, IsGapFor};
+ghost use Rattle.ptb_text.specs.Prelude.{statement_at, texts_length};
 
-use crate::LoadFault;
-use crate::line::numbered_line;
 use std::alloc::Global;
 use std::marker::Model;
 
-/// The greatest length of a statement's text.
-const TEXT_LIMIT: usize = 255;
-
 /// What a statement takes of the memory beside its text: two for its number and one for its end.
-const STATEMENT_COST: usize = 3;
+pub(crate) const STATEMENT_COST: usize = 3;
 
-// A statement's number, and where its text is in the pool of all texts.
+/// A statement's number, and where its text is in the pool of all texts.
 #[derive(Clone, Copy, Debug)]
-struct Statement {
-    number: u16,
-    place: u16,
-    length: u8,
+pub(crate) struct Statement {
+    pub(crate) number: u16,
+    pub(crate) place: u16,
+    pub(crate) length: u8,
 }
 
 impl Statement {
-    // The place after its text.
-    fn end(&self) -> usize
+    /// The place after its text.
+    pub(crate) fn end(&self) -> usize
         ensures { result ≡ self.now.place + self.now.length }
     {
         usize::from(self.place) + usize::from(self.length)
@@ -44,10 +37,10 @@ impl Statement {
 #[derive(Debug, Drop)]
 pub struct Program {
     // rising by their numbers
-    statements: Vec<Statement>,
+    pub(crate) statements: Vec<Statement>,
     // their texts in the same order, each directly after the one before it
-    pool: Vec<u8>,
-    memory: u16,
+    pub(crate) pool: Vec<u8>,
+    pub(crate) memory: u16,
 }
 
 impl Model for Program {
@@ -167,126 +160,8 @@ impl Program {
         }
     }
 
-    /// Enters a line: the statement of its number gets its text, whether there was one or not. A
-    /// line without a text deletes the statement, if there is one, and a line of blanks does
-    /// nothing.
-    ///
-    /// The program stays as it was on each fault.
-    ///
-    /// # Errors
-    ///
-    /// In this order: `BadByte` for the first byte that isn't from space to tilde (a tab and a
-    /// byte 13 are such bytes, too); `NoNumber` where no number of at least 1 is in front;
-    /// `NumberTooBig` for a number over 32767; `TextTooLong` for a text over 255 bytes; `Full`
-    /// where the statements would take more memory than there is; `Memory` where a growth was
-    /// refused for the text that the line stores.
-    pub fn enter(&mut self, line: &[u8]) -> Result<(), LoadFault>
-        ensures ok { OnOk result
-            (after_line self.old.lines self.old.memory line.now ≡ Ok self.new.lines) }
-        ensures refused { IfErr result
-            (λ f. IsLineFault f → after_line self.old.lines self.old.memory line.now ≡ Err f) }
-
-        // Lack of memory comes last.
-        ensures memory_last { IfErr result (λ f. ¬ IsLineFault f
-            → (f ≡ LoadFault.Memory) × IsOk (after_line self.old.lines self.old.memory line.now)) }
-        ensures memory_text { IsErrOf result LoadFault.Memory → HasText line.now }
-        ensures err { OnErr result (self.new ≡ self.old) }
-        ensures memory { self.new.memory ≡ self.old.memory }
-    {
-        let Some(line) = numbered_line(line)? else {
-            return Ok(());
-        };
-        if line.text.is_empty() {
-            self.delete(line.number);
-            return Ok(());
-        }
-        if line.text.len() > TEXT_LIMIT {
-            return Err(LoadFault::TextTooLong);
-        }
-        self.store(line.number, line.text)
-    }
-
-    // Deletes the statement of this number, if there is one.
-    fn delete(&mut self, number: u16)
-        ensures lines { self.new.lines ≡ without_number self.old.lines number }
-        ensures memory { self.new.memory ≡ self.old.memory }
-    {
-        if let Ok(at) = self.search(number) {
-            let deleted = self.statements.remove(at);
-            self.pool.drain(usize::from(deleted.place)..deleted.end());
-            lay_out(&mut self.statements[at..], deleted.place);
-        }
-    }
-
-    // Stores a text under a number.
-    fn store(&mut self, number: u16, text: &[u8]) -> Result<(), LoadFault>
-        requires { IsTrue (is_statement (number, text.now)) }
-        ensures { Enters (if_room self.old.memory (with_text self.old.lines number text.now))
-            self.old self.new result }
-    {
-        match self.search(number) {
-            Ok(at) => self.replace(at, number, text),
-            Err(at) => self.insert(at, number, text),
-        }
-    }
-
-    // Another text for the statement at a place. All memory is taken before anything changes.
-    fn replace(&mut self, at: usize, number: u16, text: &[u8]) -> Result<(), LoadFault>
-        requires statement { IsTrue (is_statement (number, text.now)) }
-        requires place { IsAt self.old.lines number at }
-        ensures { Enters (if_room self.old.memory (with_text self.old.lines number text.now))
-            self.old self.new result }
-    {
-        let old = self.statements[at];
-        let cost = self.cost() - u16::from(old.length) + text.len() as u16;
-        if cost > self.memory {
-            return Err(LoadFault::Full);
-        }
-        let more = text.len().saturating_sub(usize::from(old.length));
-        if self.pool.try_reserve(more).is_err() {
-            return Err(LoadFault::Memory);
-        }
-        put_text(&mut self.pool, usize::from(old.place), old.end(), text);
-        self.statements[at] = Statement {
-            number,
-            place: old.place,
-            length: text.len() as u8,
-        };
-        lay_out(&mut self.statements[at..], old.place);
-        Ok(())
-    }
-
-    // A new statement, at the place where it goes. All memory is taken before anything changes.
-    fn insert(&mut self, at: usize, number: u16, text: &[u8]) -> Result<(), LoadFault>
-        requires statement { IsTrue (is_statement (number, text.now)) }
-        requires place { IsGapFor self.old.lines number at }
-        ensures { Enters (if_room self.old.memory (with_text self.old.lines number text.now))
-            self.old self.new result }
-    {
-        let cost = self.cost() + (text.len() + STATEMENT_COST) as u16;
-        if cost > self.memory {
-            return Err(LoadFault::Full);
-        }
-        if self.pool.try_reserve(text.len()).is_err() {
-            return Err(LoadFault::Memory);
-        }
-        if self.statements.try_reserve(1).is_err() {
-            return Err(LoadFault::Memory);
-        }
-        let place = self.place_of(at);
-        put_text(&mut self.pool, usize::from(place), usize::from(place), text);
-        let statement = Statement {
-            number,
-            place,
-            length: text.len() as u8,
-        };
-        self.statements.insert(at, statement).unwrap();
-        lay_out(&mut self.statements[at..], place);
-        Ok(())
-    }
-
-    // Where the text of the statement at this place is, or the end of all texts.
-    fn place_of(&self, at: usize) -> u16
+    /// Where the text of the statement at this place is, or the end of all texts.
+    pub(crate) fn place_of(&self, at: usize) -> u16
         requires { at ≤ length self.now.lines }
         ensures { result ≡ texts_length (take at self.now.lines) }
     {
@@ -296,8 +171,8 @@ impl Program {
         }
     }
 
-    // What the statements take of the memory.
-    fn cost(&self) -> u16
+    /// What the statements take of the memory.
+    pub(crate) fn cost(&self) -> u16
         ensures value { result ≡ cost self.now.lines }
         ensures sound { IsSound self.now }
     {
@@ -326,9 +201,9 @@ impl Program {
         Some(statement.number as i16)
     }
 
-    // Where the statement of this number is, or where it would go. Lines mostly come in rising
-    // order, so the last statement is looked at first.
-    fn search(&self, number: u16) -> Result<usize, usize>
+    /// Where the statement of this number is, or where it would go. Lines mostly come in rising
+    /// order, so the last statement is looked at first.
+    pub(crate) fn search(&self, number: u16) -> Result<usize, usize>
         ensures found { IfOk result (IsAt self.now.lines number) }
         ensures absent { IfErr result (IsGapFor self.now.lines number) }
         ensures sound { IsSound self.now }
@@ -340,30 +215,5 @@ impl Program {
             }
             _ => Err(self.statements.len()),
         }
-    }
-}
-
-// Replaces the bytes from `start` to `end` with a text. It is appended first, where there is room
-// for it, and then rotated to its place, before the bytes that follow.
-fn put_text(pool: &mut Vec<u8>, start: usize, end: usize, text: &[u8])
-    requires order { start ≤ end }
-    requires within { end ≤ vec_len pool.old }
-    requires room { vec_len pool.old + length text.now ≤ vec_capacity pool.old + (end - start) }
-    ensures { pool.new.items ≡ splice pool.old.items start end text.now }
-{
-    pool.drain(start..end);
-    pool.extend_from_slice(text).unwrap();
-    pool[start..].rotate_right(text.len());
-}
-
-// Sets the places of statements whose texts are directly one after the other, the first at `start`.
-fn lay_out(statements: &mut [Statement], start: u16)
-    requires { start + lengths statements.old < 2 ^ 16 }
-    ensures { statements.new ≡ laid_out start statements.old }
-{
-    let mut place = start;
-    for statement in statements.iter_mut() {
-        statement.place = place;
-        place += u16::from(statement.length);
     }
 }

@@ -1,7 +1,7 @@
 -- This file says what the loops of `lay_out` keep.
 use Rattle.std.proofs.Common.{◌≡◌, ◌+◌, ◌++◌, take, drop}
 use Rattle.ptb_text.specs.Program.{laid_out, lengths}
-use Rattle.ptb_text.proofs.program.lay_out.Given as goal
+use Rattle.ptb_text.proofs.program_edits.lay_out.Given as goal
 
 -- the texts so far are directly one after the other, and the next place is after them
 abbrev pub invariant-loop-statement : goal.invariant-loop-statement

@@ -3,8 +3,8 @@ use Rattle.std.proofs.Common.{◌≡◌, ◌+◌, take, get_or, arith}
 use Rattle.std.proofs.lemmas.List.Sums.{sum_by-take-le}
 use Rattle.ptb_text.specs.Program.{lengths}
 use Rattle.ptb_text.proofs.Pool.{next_moved, next_length}
-use Rattle.ptb_text.proofs.program.lay_out.Goals as goal
-use Rattle.ptb_text.proofs.program.lay_out.Goals.{After-from-place}
+use Rattle.ptb_text.proofs.program_edits.lay_out.Goals as goal
+use Rattle.ptb_text.proofs.program_edits.lay_out.Goals.{After-from-place}
 
 -- the next place is after one statement more
 following : (c : After-from-place)

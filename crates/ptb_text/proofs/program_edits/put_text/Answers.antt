@@ -2,7 +2,7 @@
 use Rattle.std.proofs.Common.{rules, arith}
 use Rattle.std.proofs.lemmas.Grind.{common_steps}
 use Rattle.ptb_text.proofs.PoolEdits.{put_items}
-use Rattle.ptb_text.proofs.program.put_text.Goals as goal
+use Rattle.ptb_text.proofs.program_edits.put_text.Goals as goal
 
 pub unwrap-requires : goal.unwrap-requires
 unwrap-requires c = grind (arith, common_steps)
