@@ -1,30 +1,23 @@
-// This file shows what the operations of a command show.
+// This file shows values and texts, as PRINT does, by `show_expression`, and has what a command gathers.
 
-ghost use Rattle.std.specs.Prelude.{◌≡◌, ◌+◌, ◌-◌, ◌≤◌, ◌++◌, ◌∷◌, [], ℕ, ℤ, Bool, List, length, take, drop, replicate};
-ghost use Rattle.ptb_machine.specs.Prelude.{signed_decimal, Cells, Tree, or_fault, first_width, padded_decimal};
-ghost use Rattle.ptb_machine.specs.Prelude.{parts_action, width_of, goes_on, show, work_action, AreStepsAt};
-ghost use Rattle.ptb_machine.specs.Prelude.{FailsWithoutValue, IsIn, IsLiteralIn, bytes_in, literal_bytes, Part, Show};
-ghost use Rattle.ptb_machine.specs.Prelude.{Width, Devices, nothing_refused, refused_answers, with_choices, due_trace};
-ghost use Rattle.ptb_machine.specs.Prelude.{SameDevices, Comes, Trace, trace, with_due};
+ghost use Rattle.std.specs.Prelude.{◌≡◌, ◌∷◌, [], ℕ, ℤ, List};
+ghost use Rattle.ptb_machine.specs.Prelude.{Cells, Tree, first_width, padded_decimal, parts_action, goes_on, show};
+ghost use Rattle.ptb_machine.specs.Prelude.{AreStepsAt, FailsWithoutValue, IsIn, IsLiteralIn, bytes_in, literal_bytes};
+ghost use Rattle.ptb_machine.specs.Prelude.{Part, Show, nothing_refused, refused_answers, due_trace, SameDevices};
+ghost use Rattle.ptb_machine.specs.Prelude.{Comes};
 
 use crate::command_io::CommandIo;
+use crate::execution::decimals::{TEXT, gather_decimals, write_decimal};
 use crate::execution::values::short_value;
 use crate::operation::{Expression, Literal, Range};
-use crate::pending_output::{PENDING_LIMIT, PendingOutput};
-use crate::stop::{Stop, fault};
-use itoa::write_digits;
+use crate::pending_output::PendingOutput;
+use crate::stop::Stop;
 use ptb_answers::Chooser;
 use ptb_devices::{LineSource, Screen};
-use ptb_expr::{FaultKind, Step, Steps, Store};
+use ptb_expr::{Step, Steps, Store};
 
 /// The width of the values at the start of each command.
 pub const FIRST_WIDTH: u8 = 6;
-
-/// How many bytes of a value are written at once: its decimals, and blanks before them.
-const TEXT: usize = 16;
-
-/// The blanks before these bytes, at most.
-static BLANKS: [u8; 239] = [b' '; 239];
 
 /// What a command has gathered, and the width of the values that it shows. It is lent to one command
 /// after the other: to make one takes longer than to begin again with it.
@@ -81,49 +74,6 @@ pub(crate) fn literal_bytes(text: &[u8], literal: Literal) -> &[u8]
     }
 }
 
-// A value as a width.
-fn width_of(value: i16, mark: usize) -> Result<u8, Stop>
-    ensures { (o : Trace) → Comes nothing_refused o o
-        (work_action (λ _. or_fault (width_of value) mark)) goes_on result }
-{
-    match u8::try_from(value) {
-        Ok(width) => Ok(width),
-        Err(_) => Err(fault(FaultKind::How, mark)),
-    }
-}
-
-// Writes the decimals of a value, which end at a place. Where they begin.
-#[inline(always)]
-fn write_decimal(value: i16, bytes: &mut [u8], to: usize) -> usize
-    requires { (length (signed_decimal value) ≤ to) × (to ≤ length bytes.old) }
-    ensures start { result + length (signed_decimal value) ≡ to }
-    ensures written { drop result bytes.new ≡ signed_decimal value ++ drop to bytes.old }
-    ensures before { take result bytes.new ≡ take result bytes.old }
-{
-    let start = write_digits(u64::from(value.unsigned_abs()), bytes, to);
-    if value >= 0 {
-        return start;
-    }
-    bytes[start - 1] = b'-';
-    start - 1
-}
-
-// Gathers the decimals that a text has after its blanks, from the place `start` on, with blanks before
-// them up to the width.
-#[inline(always)]
-fn gather_decimals(pending: &mut PendingOutput, width: u8, text: &[u8], start: usize)
-    requires text { (length text.now ≡ TEXT) × (start ≤ TEXT) }
-    requires blanks { length pending.old + width ≤ PENDING_LIMIT }
-    requires decimals { length pending.old + (TEXT - start) ≤ PENDING_LIMIT }
-    ensures { (decimals : List ℕ) → text.now ≡ replicate start 32 ++ decimals →
-        pending.new ≡ pending.old ++ (replicate (width - length decimals) 32 ++ decimals) }
-{
-    let width = usize::from(width);
-    let before = width.saturating_sub(TEXT);
-    pending.append(&BLANKS[..before]);
-    pending.append(&text[start.min(TEXT - (width - before))..]);
-}
-
 // Shows a value with blanks before it up to the width.
 #[inline(always)]
 fn show_value<C: Chooser, S: Screen, L: LineSource>(
@@ -168,27 +118,4 @@ pub(crate) fn show_expression<C: Chooser, S: Screen, L: LineSource>(
 {
     let value = short_value(steps, expression, store, io.chooser)?;
     show_value(io, &mut output.pending, output.width, value)
-}
-
-/// The value of an expression as a width; `mark` is the mark of a value that is no width.
-#[inline(always)]
-pub(crate) fn new_width<C: Chooser>(
-    steps: &[Step],
-    expression: Expression,
-    mark: u8,
-    store: &Store,
-    chooser: &mut C,
-) -> Result<u8, Stop>
-    ensures comes { (d : Devices) (fresh : Bool) (due : List ℕ) (x : Tree) (rest : List Part)
-        (w : ℕ) (operands : List ℤ) →
-        AreStepsAt steps.now expression x →
-        Comes (refused_answers (C.refused chooser.new))
-        (with_due due (trace (with_choices (C.choices chooser.old) d) fresh store.now))
-        (with_due due (trace (with_choices (C.choices chooser.new) d) fresh store.now))
-        (parts_action (Width x mark ∷ rest) w operands)
-        (λ width. parts_action rest width operands) result }
-    ensures valued { FailsWithoutValue steps.now expression result }
-{
-    let value = short_value(steps, expression, store, chooser)?;
-    width_of(value, usize::from(mark))
 }

@@ -4,7 +4,7 @@ use Rattle.std.proofs.Common.{length-append, take_all}
 use Rattle.std.specs.Prelude.{replicate}
 use Rattle.std.proofs.lemmas.List.{length-drop, length-replicate, take-replicate}
 use Rattle.ptb_machine.proofs.Shown.{padded_parts}
-use Rattle.ptb_machine.proofs.execution.print.gather_decimals.Goals as goal
+use Rattle.ptb_machine.proofs.execution.decimals.gather_decimals.Goals as goal
 
 pub append-requires-2 : goal.append-requires-2
 append-requires-2 c =

@@ -3,7 +3,7 @@ use Rattle.std.proofs.Common.{◌≡◌, ◌∙◌, ap, rules, sym, to_z, of_z, 
 use Rattle.ptb_machine.specs.Act.{width_of}
 use Rattle.ptb_machine.proofs.Actions.{known_value, known_fault, stops_fault}
 use Rattle.ptb_machine.proofs.Shown.{wide_enough, too_wide}
-use Rattle.ptb_machine.proofs.execution.print.width_of.Goals as goal
+use Rattle.ptb_machine.proofs.execution.width.width_of.Goals as goal
 
 pub returns-in-Ok : goal.returns-in-Ok
 returns-in-Ok c o =

@@ -5,7 +5,7 @@ use Rattle.ptb_machine.specs.Traces.{trace, with_due}
 use Rattle.ptb_machine.proofs.Parts.{width_value_stops}
 use Rattle.ptb_machine.proofs.ShownParts.{ok_never, width_comes}
 use Rattle.ptb_machine.proofs.Stops.{comes_err}
-use Rattle.ptb_machine.proofs.execution.print.new_width.Goals as goal
+use Rattle.ptb_machine.proofs.execution.width.new_width.Goals as goal
 
 pub returns-in_err-value : goal.returns-in_err-value
 returns-in_err-value g c = record {
