@@ -49,6 +49,7 @@ mod run_end;
 mod saved;
 mod saved_registers;
 mod short;
+mod short_commands;
 mod short_forms;
 mod stack;
 mod statements;
