@@ -155,7 +155,7 @@ impl Stack {
     }
 
     /// Where a turn of the newest level's loop of a variable begins; `None` where there is no such loop.
-    pub(crate) fn loop_back(&self, letter: Letter) -> Option<Location>
+    pub fn loop_back(&self, letter: Letter) -> Option<Location>
         ensures { result ≡ option_map (λ x. x.0.back) (loop_of letter self.now) }
     {
         let (_, item) = newest_loop(self.opens.as_slice(), letter)?;
