@@ -276,7 +276,8 @@ module _ (finding : FindingLaws) (spelling : SpellingLaws) (t : List ℕ) where
   limit_on : (i : ℕ) → EndsOn t i (limit_parts t i)
   unfolding limit_parts
   limit_on i = word_on To i (limit_by t i)
-      (λ w a. part_and_on Operand i (expression t w.1) (step_parts t) (expression_on i w.1 (on_ahead t i w.1 a)) step_on)
+      (λ w a. part_and_on Operand i (expression t w.1) (step_parts t) (expression_on i w.1 (on_ahead t i w.1 a))
+      step_on)
       tt
 
   first_on : (x i : ℕ) → EndsOn t i (first_parts t x i (token_at 61 t i))

@@ -55,8 +55,8 @@ module _ (said : List ℕ) (x : Tree) (prompt : List ℕ) {i o : Trace}
       comes_err (refused_by answers unread lines) i n (item_action said x prompt) ok r e is
       (stops_after (refused_by answers unread lines) end was e
       (take_ask_stops said x prompt (refused_by answers unread lines) o end e
-      (stops_more (refused_answers answers) (refused_by answers unread lines) (answers_refused answers unread lines) o end
-      (ask_for said x prompt) e h)))
+      (stops_more (refused_answers answers) (refused_by answers unread lines) (answers_refused answers unread lines)
+      o end (ask_for said x prompt) e h)))
 
   -- what is gathered before a line is waited for can't be shown
   pub answering_unshown : {X : Type 0} (answers : Pause → ℤ → Type 0) (unread : DeviceFault → Type 0)
@@ -118,7 +118,8 @@ module _ (said : List ℕ) (x : Tree) (prompt : List ℕ) {i o : Trace}
           comes_after (refused_by answers unread lines) n (λ u. goes_on tt)
           (refines_part_then was
           (take_instead said x prompt most bound at (none_more (λ (z : ℕ). z) line none no_more) choose comes))
-          r (comes_more (refused_answers answers) (refused_by answers unread lines) (answers_refused answers unread lines)
+          r (comes_more (refused_answers answers) (refused_by answers unread lines)
+          (answers_refused answers unread lines)
           (with_most most m) n (answer_instead bound at) (λ u. goes_on tt) r h)
 
     -- the source gives a line, and has then given these

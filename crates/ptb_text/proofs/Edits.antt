@@ -57,7 +57,8 @@ all_without [] n all = refl
 all_without (s ∷ p) n all =
     let first = (both_true _ _ all).0 in
     let rest = all_without p n (both_true _ _ all).1 in
-    elim (not (s.0 == n)) as (λ b. list_all is_statement (cond b (s ∷ without_number p n) (without_number p n)) ≡ true) [
+    elim (not (s.0 == n))
+    as (λ b. list_all is_statement (cond b (s ∷ without_number p n) (without_number p n)) ≡ true) [
       | true ↦ both _ _ first rest
       | false ↦ rest
     ]
