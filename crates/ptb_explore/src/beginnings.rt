@@ -1,15 +1,14 @@
-// This file finds the lists of answers that split the runs of a program, and writes them.
+// This file writes the lists that split all runs of a program, by `write_beginnings`.
 
-ghost use Rattle.std.specs.Prelude.{◌≡◌, ◌≤◌, ℕ, Ok, None, [], true, false, length, IfOk, OnOk, OnErr, IsErrOf, IsTrue};
-ghost use Rattle.ptb_explore.specs.Prelude.{Answers, bounds_of, is_open, HasFailed, answers_in, bounds_in, recorded};
-ghost use Rattle.ptb_explore.specs.Prelude.{beginning_line, split_play, stopped, FindsBeginning, IsSameSearch, MovesTo};
-ghost use Rattle.ptb_explore.specs.Prelude.{Agrees, AreCopies, PlaysOn, kept_runs, AreCopiesAt, HasRunCopies};
-ghost use Rattle.ptb_explore.specs.Prelude.{IsSameGame, NextPlays, game_of, FailsToWrite, FailsOnlyToWrite, NextWrites};
-ghost use Rattle.ptb_explore.specs.Prelude.{WritesRuns, PlanEndsWith, IsFresh, IsPosition, front_at, At, IsLast, Start};
-ghost use Rattle.ptb_explore.specs.Prelude.{runs_left};
+ghost use Rattle.std.specs.Prelude.{◌≡◌, ℕ, Ok, None, [], false, IfOk, OnErr, IsErrOf};
+ghost use Rattle.ptb_explore.specs.Prelude.{Answers, bounds_of, HasFailed, answers_in, bounds_in, beginning_line};
+ghost use Rattle.ptb_explore.specs.Prelude.{split_play, stopped, IsSameSearch, MovesTo, AreCopiesAt, game_of};
+ghost use Rattle.ptb_explore.specs.Prelude.{FailsToWrite, FailsOnlyToWrite, NextWrites, WritesRuns, IsPosition};
+ghost use Rattle.ptb_explore.specs.Prelude.{front_at, At, IsLast, Start, runs_left};
 
+use crate::beginning_search::find_beginning;
 use crate::fault::ExploreFault;
-use crate::plan::{Position, plan_next};
+use crate::plan::Position;
 use crate::report_text::write_list;
 use crate::runner::Runner;
 use ptb_answers::{Asked, Form};
@@ -17,65 +16,6 @@ use ptb_machine::{Line, Rules, run_laws};
 use ptb_text::{DeviceFault, Program, Write};
 use std::alloc::{AllocError, Global};
 use std::marker::Model;
-
-// Plays a runner's plan on from a copy, but not past the question that follows `most` answers. The
-// report has the answers that were taken then, and their bounds. The first answers of the plan are
-// those of the report before, as many as `common` says.
-fn play_beginning(runner: &mut Runner, common: usize, most: usize) -> Result<(), AllocError>
-    requires fresh { IsFresh runner.old.trial }
-    requires within { length (recorded runner.old.trial) ≤ most }
-    requires common { common ≤ length (recorded runner.old.trial) }
-    requires opens { is_open (stopped most (game_of runner.old)
-        (recorded runner.old.trial)) ≡ true }
-    requires agrees { Agrees (game_of runner.old) common (recorded runner.old.trial)
-        (answers_in runner.old.report.asked.items) (bounds_in runner.old.trial.asked.items) }
-    requires copies { AreCopies runner.old.player runner.old.lines.now runner.old.rules
-        (answers_in runner.old.report.asked.items) runner.old.report.transcript.items
-        runner.old.copies.kept.items }
-    ensures same { IsSameGame runner.old runner.new }
-    ensures ends { OnOk result (PlanEndsWith (stopped most (game_of runner.old))
-        (recorded runner.old.trial) (answers_in runner.new.report.asked.items)
-        (bounds_in runner.new.report.asked.items) tt) }
-    ensures asked { OnErr result (runner.new.report.asked.items ≡ runner.old.report.asked.items) }
-    ensures copies { OnOk result (HasRunCopies runner.old runner.new) }
-    ensures played { OnOk result (PlaysOn common runner.old.copies.kept.items runner.old.played
-        runner.new.report.steps runner.new.played) }
-{
-    run_laws();
-    runner.trial.stop_after(most)?;
-    runner.play_plan(common)?;
-    runner.trial.keep_given();
-    runner.trial.hand_over(&mut runner.report.asked);
-    Ok(())
-}
-
-// Finds the next list, and says whether there is one. The runner's report has its answers and bounds
-// then.
-fn find_beginning(runner: &mut Runner, most: usize, position: Position) -> Result<bool, AllocError>
-    requires position { IsPosition (stopped most (game_of runner.old)) [] position
-        (answers_in runner.old.report.asked.items) (bounds_in runner.old.report.asked.items) }
-    requires copies { AreCopiesAt runner.old.player runner.old.lines.now runner.old.rules position
-        runner.old.report runner.old.copies.kept.items }
-    ensures same { IsSameGame runner.old runner.new }
-    ensures next { IfOk result (FindsBeginning (stopped most (game_of runner.old))
-        (front_at position (answers_in runner.old.report.asked.items)) runner.new.report) }
-    ensures asked { OnErr result (runner.new.report.asked.items ≡ runner.old.report.asked.items) }
-    ensures ended { IsLast (stopped most (game_of runner.old)) []
-        (front_at position (answers_in runner.old.report.asked.items)) → result ≡ Ok false }
-    ensures copies { IfOk result (λ found. IsTrue found → HasRunCopies runner.old runner.new) }
-    ensures played { IfOk result (NextPlays
-        (kept_runs (answers_in runner.old.report.asked.items) runner.old.copies.kept.items)
-        runner.old.played runner.new.report runner.new.played) }
-{
-    run_laws();
-    match plan_next(position, &[], &runner.report.asked, &mut runner.trial)? {
-        None => Ok(false),
-        Some(common) => {
-            play_beginning(runner, common, most)?;
-            Ok(true)
-        }
-    }
-}
 
 /// Finds the lists of answers that split the runs of a program, one after the other, in the order of
 /// their answers: the runs of at most so many answers, and the lists of so many answers that a

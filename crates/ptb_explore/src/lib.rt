@@ -12,6 +12,7 @@
 //! `specs/ReportText`, or a prefix of it where it fails), and on `program_laws`.
 #![tactic(auto)]
 
+mod beginning_search;
 mod beginnings;
 mod copies;
 mod explorer;

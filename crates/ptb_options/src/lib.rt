@@ -9,6 +9,7 @@
 mod answers;
 mod command_line;
 mod decision;
+mod given_options;
 mod help;
 mod items;
 mod mistakes;

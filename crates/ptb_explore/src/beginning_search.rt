@@ -1,0 +1,74 @@
+// This file plays a plan up to the questions of a list that splits runs, by `find_beginning`.
+
+ghost use Rattle.std.specs.Prelude.{◌≡◌, ◌≤◌, Ok, [], true, false, length, IfOk, OnOk, OnErr, IsTrue};
+ghost use Rattle.ptb_explore.specs.Prelude.{is_open, answers_in, bounds_in, recorded, stopped, FindsBeginning, Agrees};
+ghost use Rattle.ptb_explore.specs.Prelude.{AreCopies, PlaysOn, kept_runs, AreCopiesAt, HasRunCopies, IsSameGame};
+ghost use Rattle.ptb_explore.specs.Prelude.{NextPlays, game_of, PlanEndsWith, IsFresh, IsPosition, front_at, IsLast};
+
+use crate::plan::{Position, plan_next};
+use crate::runner::Runner;
+use ptb_machine::run_laws;
+use std::alloc::AllocError;
+
+// Plays a runner's plan on from a copy, but not past the question that follows `most` answers. The
+// report has the answers that were taken then, and their bounds. The first answers of the plan are
+// those of the report before, as many as `common` says.
+fn play_beginning(runner: &mut Runner, common: usize, most: usize) -> Result<(), AllocError>
+    requires fresh { IsFresh runner.old.trial }
+    requires within { length (recorded runner.old.trial) ≤ most }
+    requires common { common ≤ length (recorded runner.old.trial) }
+    requires opens { is_open (stopped most (game_of runner.old)
+        (recorded runner.old.trial)) ≡ true }
+    requires agrees { Agrees (game_of runner.old) common (recorded runner.old.trial)
+        (answers_in runner.old.report.asked.items) (bounds_in runner.old.trial.asked.items) }
+    requires copies { AreCopies runner.old.player runner.old.lines.now runner.old.rules
+        (answers_in runner.old.report.asked.items) runner.old.report.transcript.items
+        runner.old.copies.kept.items }
+    ensures same { IsSameGame runner.old runner.new }
+    ensures ends { OnOk result (PlanEndsWith (stopped most (game_of runner.old))
+        (recorded runner.old.trial) (answers_in runner.new.report.asked.items)
+        (bounds_in runner.new.report.asked.items) tt) }
+    ensures asked { OnErr result (runner.new.report.asked.items ≡ runner.old.report.asked.items) }
+    ensures copies { OnOk result (HasRunCopies runner.old runner.new) }
+    ensures played { OnOk result (PlaysOn common runner.old.copies.kept.items runner.old.played
+        runner.new.report.steps runner.new.played) }
+{
+    run_laws();
+    runner.trial.stop_after(most)?;
+    runner.play_plan(common)?;
+    runner.trial.keep_given();
+    runner.trial.hand_over(&mut runner.report.asked);
+    Ok(())
+}
+
+/// Finds the next list, and says whether there is one. The runner's report has its answers and bounds
+/// then.
+pub(crate) fn find_beginning(
+    runner: &mut Runner,
+    most: usize,
+    position: Position,
+) -> Result<bool, AllocError>
+    requires position { IsPosition (stopped most (game_of runner.old)) [] position
+        (answers_in runner.old.report.asked.items) (bounds_in runner.old.report.asked.items) }
+    requires copies { AreCopiesAt runner.old.player runner.old.lines.now runner.old.rules position
+        runner.old.report runner.old.copies.kept.items }
+    ensures same { IsSameGame runner.old runner.new }
+    ensures next { IfOk result (FindsBeginning (stopped most (game_of runner.old))
+        (front_at position (answers_in runner.old.report.asked.items)) runner.new.report) }
+    ensures asked { OnErr result (runner.new.report.asked.items ≡ runner.old.report.asked.items) }
+    ensures ended { IsLast (stopped most (game_of runner.old)) []
+        (front_at position (answers_in runner.old.report.asked.items)) → result ≡ Ok false }
+    ensures copies { IfOk result (λ found. IsTrue found → HasRunCopies runner.old runner.new) }
+    ensures played { IfOk result (NextPlays
+        (kept_runs (answers_in runner.old.report.asked.items) runner.old.copies.kept.items)
+        runner.old.played runner.new.report runner.new.played) }
+{
+    run_laws();
+    match plan_next(position, &[], &runner.report.asked, &mut runner.trial)? {
+        None => Ok(false),
+        Some(common) => {
+            play_beginning(runner, common, most)?;
+            Ok(true)
+        }
+    }
+}
