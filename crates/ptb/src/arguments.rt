@@ -1,22 +1,16 @@
-// This file has what the arguments of the command line ask for, and what is answered to a usage
-// error.
+// This file does what the arguments of the command line ask for, by `run_arguments`.
 
-ghost use Rattle.std.specs.Prelude.{◌≡◌, ◌≤◌, IfErr, IfOk, IfSome, codes, map, is_ok, is_some, option_copied};
-ghost use Rattle.std.specs.Prelude.{string_bytes};
-ghost use Rattle.ptb.specs.Prelude.{error_kind, first_of, kind_of, HasBound, HasMemorySize, RefusesOptions, entries_of};
-ghost use Rattle.ptb.specs.Prelude.{options_of, usage_status, note_status, AnswersOptions, AsksAt, ExitsBy};
-ghost use Rattle.ptb.specs.Prelude.{IsRefusedStatus, IsUnreadStatus, by_seed, draws_seed, shown_status, unread_status};
+ghost use Rattle.std.specs.Prelude.{◌≡◌, ◌≤◌, IfErr, IfOk, IfSome, codes, map, is_some, option_copied, string_bytes};
+ghost use Rattle.ptb.specs.Prelude.{error_kind, first_of, HasBound, HasMemorySize, RefusesOptions, entries_of};
+ghost use Rattle.ptb.specs.Prelude.{options_of, AnswersOptions, AsksAt, ExitsBy, IsUnreadStatus, by_seed, draws_seed};
 ghost use Rattle.ptb.specs.Prelude.{reads_of, writes_of};
 
 use crate::console::Console;
+use crate::refusals::{refuse, refuse_options, unread_words};
 use crate::task::{Programs, Task, serve_task};
 use clap::ArgMatches;
-use clap::error::ErrorKind;
-use ptb_options::{
-    Mode, Request, UsageFault, WrongNumber, decide, misspelled_list, parse, refusal_status,
-    wrong_number,
-};
-use ptb_serve::{Note, Watch};
+use ptb_options::{Mode, Request, UsageFault, decide, parse, wrong_number};
+use ptb_serve::Watch;
 use ptb_text::{Read, Write};
 use std::convert::AsStr;
 use std::io;
@@ -74,70 +68,6 @@ fn run_words<
     }
 }
 
-// Says why the arguments can't be read: there is no memory for them, or one is no text.
-fn unread_words<R: Runtime>(console: &Console<'_, R>, error: &io::Error) -> u8
-    ensures { result ≡ unread_status (error_kind error.now) }
-{
-    match error.kind() {
-        io::ErrorKind::OutOfMemory => give_up(console, Note::OutOfMemory),
-        _ => {
-            console.say(*error);
-            64
-        }
-    }
-}
-
-// Says what clap has to say: a mistake in the arguments, or the help or version that they ask for.
-fn refuse<R: Runtime>(
-    console: &Console<'_, R>,
-    error: &clap::Error,
-    wrong: Option<WrongNumber<'_>>,
-) -> u8
-    ensures { IsRefusedStatus (kind_of error.now) result }
-{
-    if error.kind() == ErrorKind::OutOfMemory {
-        return give_up(console, Note::OutOfMemory);
-    }
-    let shown = match wrong {
-        Some(wrong) if is_said_by(error, wrong) => console.runtime().eprint(wrong),
-        _ => error.print(console.runtime()),
-    };
-    shown_error(console, error, shown)
-}
-
-// The status of what clap had to say, by what came of showing it. Help and version are written to
-// standard output.
-fn shown_error<R: Runtime>(
-    console: &Console<'_, R>,
-    error: &clap::Error,
-    shown: io::Result<()>,
-) -> u8
-    ensures { result ≡ shown_status (kind_of error.now) (is_ok shown) }
-{
-    if shown.is_err() && !error.use_stderr() {
-        return give_up(console, Note::Unwritten);
-    }
-    refusal_status(error.kind())
-}
-
-// Whether a wrong number says more plainly than clap what clap refused. A negative number is an
-// unknown option to clap.
-fn is_said_by(error: &clap::Error, wrong: WrongNumber<'_>) -> bool {
-    match error.kind() {
-        ErrorKind::ValueValidation => true,
-        ErrorKind::UnknownArgument => wrong.value.starts_with('-'),
-        _ => false,
-    }
-}
-
-// Says why nothing is served.
-fn give_up<R: Runtime>(console: &Console<'_, R>, note: Note) -> u8
-    ensures { result ≡ note_status note }
-{
-    console.say(note);
-    note.status()
-}
-
 // Does what the options ask for.
 fn run_matches<R: Runtime + AllocGlobal, P: Read + Drop, O: Programs<P>, I: Read, W: Write + Watch>(
     console: &Console<'_, R>,
@@ -157,23 +87,6 @@ fn run_matches<R: Runtime + AllocGlobal, P: Read + Drop, O: Programs<P>, I: Read
         Ok(task) => serve_task(console, &task, programs, input, out),
         Err(fault) => refuse_options(console, fault, matches),
     }
-}
-
-// Says why the options make no request.
-fn refuse_options<R: Runtime>(
-    console: &Console<'_, R>,
-    fault: UsageFault,
-    matches: &ArgMatches<'_>,
-) -> u8
-    ensures { result ≡ usage_status fault }
-{
-    console.say(fault);
-    if fault == UsageFault::BadList {
-        if let Some(list) = misspelled_list(matches) {
-            console.say(format_args!("  {list}"));
-        }
-    }
-    fault.status()
 }
 
 // What the options ask to be served. At a terminal a run draws its seed where it is given neither

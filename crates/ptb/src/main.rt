@@ -17,6 +17,7 @@ mod no_lines;
 mod progress;
 mod readers;
 mod reasons;
+mod refusals;
 mod task;
 mod terminal;
 
