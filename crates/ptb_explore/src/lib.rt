@@ -21,6 +21,7 @@ mod form;
 mod laws;
 mod listing;
 mod mismatch;
+mod next_report;
 mod opening;
 mod plan;
 mod plays;

@@ -1,18 +1,14 @@
-// This file has what plays the runs of a listing, one after the other, and makes their reports.
+// This file has what plays the runs of a program, one after the other: `Runner`, by `play_plan`.
 
-ghost use Rattle.std.specs.Prelude.{◌≡◌, ◌+◌, ◌<◌, ◌≤◌, false, Ok, [], length, drop, true, IfOk, OnOk, OnErr, IsTrue};
-ghost use Rattle.ptb_explore.specs.Prelude.{answers_of, is_open, play, answers_in, bounds_in, Agrees, AreCopies};
-ghost use Rattle.ptb_explore.specs.Prelude.{PlaysOn, WentBack, kept_runs, last_steps, play_limit, game_of, finish_of};
-ghost use Rattle.ptb_explore.specs.Prelude.{AreCopiesAt, IsSameGame, HasRunCopies, NextPlays, NextReports, Resumes};
-ghost use Rattle.ptb_explore.specs.Prelude.{IsRunPrefix, PlayEnds, front_at, PlanEndsWith, IsFresh, IsPosition};
-ghost use Rattle.ptb_explore.specs.Prelude.{choices_of, recorded, IsLast};
+ghost use Rattle.std.specs.Prelude.{◌≡◌, ◌+◌, ◌<◌, ◌≤◌, false, [], length, drop, IfOk, OnOk};
+ghost use Rattle.ptb_explore.specs.Prelude.{play, answers_in, bounds_in, Agrees, AreCopies, PlaysOn, WentBack};
+ghost use Rattle.ptb_explore.specs.Prelude.{last_steps, play_limit, game_of, IsSameGame, Resumes, IsRunPrefix};
+ghost use Rattle.ptb_explore.specs.Prelude.{PlayEnds, IsFresh, choices_of, recorded};
 
 use crate::copies::Copies;
-use crate::plan::{Position, plan_next};
 use crate::recorder::Recorder;
 use crate::report::Report;
-use ptb_answers::Marked;
-use ptb_machine::{Line, Lines, Machine, Player, Rules, TextScreen, run_laws};
+use ptb_machine::{Line, Lines, Machine, Player, Rules, TextScreen};
 use ptb_text::Program;
 use std::alloc::{AllocError, Global};
 use std::mem;
@@ -159,64 +155,5 @@ impl<'a> Runner<'a> {
         self.report.ending = ending?;
         self.report.steps = steps;
         Ok(())
-    }
-
-    // Plays a plan as play_plan does, and makes the report of its run.
-    fn report_plan(&mut self, common: usize) -> Result<(), AllocError>
-        requires resumes { Resumes self.old common }
-        requires opens { is_open (game_of self.old (recorded self.old.trial)) ≡ true }
-        ensures same { IsSameGame self.old self.new }
-        ensures ends { OnOk result (PlanEndsWith (game_of self.old) (recorded self.old.trial)
-            (answers_in self.new.report.asked.items) (bounds_in self.new.report.asked.items)
-            (finish_of self.new.report)) }
-        ensures asked { OnErr result (self.new.report.asked.items ≡ self.old.report.asked.items) }
-        ensures copies { OnOk result (HasRunCopies self.old self.new) }
-        ensures played { OnOk result (PlaysOn common self.old.copies.kept.items self.old.played
-            self.new.report.steps self.new.played) }
-        ensures rises { self.old.played ≤ self.new.played }
-        ensures once { self.new.played < self.old.played + play_limit }
-    {
-        run_laws();
-        self.play_plan(common)?;
-        self.trial.hand_over(&mut self.report.asked);
-        Ok(())
-    }
-
-    /// Makes the report of the next run of those that begin with some answers, and says whether there
-    /// is one. The listing is at the run of the report, or as the position says.
-    ///
-    /// # Errors
-    ///
-    /// Where a growth was refused memory, never where no run is left. The report keeps its answers.
-    pub(crate) fn report_next(
-        &mut self,
-        position: Position,
-        under: &[Marked],
-    ) -> Result<bool, AllocError>
-        requires position { IsPosition (game_of self.old) (answers_of under.now) position
-            (answers_in self.old.report.asked.items) (bounds_in self.old.report.asked.items) }
-        requires copies { AreCopiesAt self.old.player self.old.lines.now self.old.rules position
-            self.old.report self.old.copies.kept.items }
-        ensures same { IsSameGame self.old self.new }
-        ensures next { IfOk result (NextReports (game_of self.old) (answers_of under.now)
-            (front_at position (answers_in self.old.report.asked.items)) self.new.report) }
-        ensures asked { OnErr result (self.new.report.asked.items ≡ self.old.report.asked.items) }
-        ensures ended { IsLast (game_of self.old) (answers_of under.now)
-            (front_at position (answers_in self.old.report.asked.items)) → result ≡ Ok false }
-        ensures copies { IfOk result (λ found. IsTrue found → HasRunCopies self.old self.new) }
-        ensures played { IfOk result (NextPlays
-            (kept_runs (answers_in self.old.report.asked.items) self.old.copies.kept.items)
-            self.old.played self.new.report self.new.played) }
-        ensures rises { self.old.played ≤ self.new.played }
-        ensures once { self.new.played < self.old.played + play_limit }
-    {
-        run_laws();
-        match plan_next(position, under, &self.report.asked, &mut self.trial)? {
-            None => Ok(false),
-            Some(common) => {
-                self.report_plan(common)?;
-                Ok(true)
-            }
-        }
     }
 }
