@@ -4,7 +4,7 @@ pub use Rattle.ptb_text.specs.CursorState.{bytes_left}
 pub use Rattle.ptb_text.specs.Finding.{LiesAhead}
 pub use Rattle.ptb_text.specs.Words.{word_at, IsFunction}
 pub use Rattle.ptb_text.specs.declared.word.Table.TheVariants.{Functions}
-pub use Rattle.ptb_expr.specs.Actions.{room_of, Reads, Fails}
+pub use Rattle.ptb_expr.specs.ReadSteps.{room_of, unary_steps, Reads, Fails}
 pub use Rattle.ptb_expr.specs.Evaluate.{Evaluates, IsEvaluated, IsMarkedWithin, IsTarget, IsWhole, variable_target}
 pub use Rattle.ptb_expr.specs.Evaluate.{variable_there, expression_there}
 pub use Rattle.ptb_expr.specs.Operators.{product_operator, sum_operator, comparison}
