@@ -18,6 +18,5 @@ pub mod ReadParts
 pub mod Starts
 pub mod Runs
 pub mod Coded
-pub mod DirectValues
 pub mod TranslatedTrees
 pub mod ShortForms

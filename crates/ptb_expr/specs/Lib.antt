@@ -14,8 +14,7 @@ pub use Rattle.ptb_text.specs.Words
 pub use Rattle.ptb_text.specs.Finding
 pub mod TreeSteps
 pub mod Stops
-pub mod Direct
-pub mod Actions
+pub mod ReadSteps
 pub mod Starts
 pub mod Translation
 pub mod Short

@@ -3,11 +3,11 @@
 --     BeginsFactor t start i j             between i and j stands what a factor begins with
 --     start_room start                     how much room is needed for it
 use Rattle.std.specs.Prelude.{ℕ, List}
-use Rattle.ptb_expr.specs.declared.actions.Unary.{Unary}
+use Rattle.ptb_expr.specs.declared.step.Unary.{Unary}
 use Rattle.ptb_expr.specs.declared.fault.FaultKind.TheVariants.{How}
 use Rattle.ptb_expr.specs.declared.reader.Start.{Start}
 use Rattle.ptb_expr.specs.declared.reader.Start.TheVariants as starts
-use Rattle.ptb_expr.specs.Actions.{node_of, room_of}
+use Rattle.ptb_expr.specs.ReadSteps.{node_of, room_of}
 use Rattle.ptb_expr.specs.Reading.{Reading, Whole, Malformed, node_over}
 use Rattle.ptb_expr.specs.Spells.{Part, Factor, Paren, Spells}
 use Rattle.ptb_expr.specs.Tree.{Tree, Num, Var, Size, Bad}

@@ -4,17 +4,13 @@
 //! It stands on `ptb_text` and `ptb_answers`. The crate above may rely on `evaluate` and `target`:
 //! whoever answers, their result is the one that `specs/Value` gives the tree that `specs/Spells`
 //! reads at the cursor, a value, a fault with its mark or a question. So is the result of
-//! `evaluate_in`, which is lent the room for the steps. `direct_value` has the value of an
-//! expression without RND and faults, for which no step is made: the reader is generic over what is
-//! done with the parts that it reads. What is evaluated often is read once, by `read_value` and
-//! `read_variable`; `run_steps` runs the steps, and `plain_value` runs those that ask nothing and
-//! have a value. A `ShortValue` has the value of a few steps without a loop over them. The crate
-//! passes on what `ptb_answers` has: the choosers, the rules of a run, and the forms of lists of
-//! answers.
+//! `evaluate_in`, which is lent the room for the steps. What is evaluated often is read once, by
+//! `read_value` and `read_variable`; `run_steps` runs the steps, and `plain_value` runs those that
+//! ask nothing and have a value. A `ShortValue` has the value of a few steps without a loop over
+//! them. The crate passes on what `ptb_answers` has: the choosers, the rules of a run, and the forms
+//! of lists of answers.
 #![tactic(auto)]
 
-mod actions;
-mod direct;
 mod eval;
 mod fault;
 mod laws;
@@ -30,7 +26,6 @@ mod store;
 mod translation;
 mod values;
 
-pub use direct::direct_value;
 pub use eval::{evaluate, evaluate_in, target};
 pub use fault::{Fault, FaultKind, Stop};
 pub use laws::{code_laws, mark_laws, spelling_laws, value_laws};

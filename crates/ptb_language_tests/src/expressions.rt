@@ -6,7 +6,7 @@ ghost use Rattle.ptb_text.specs.Words.{is_letter};
 use crate::shared::{cursor_in_front, expect_same};
 use ptb_expr::{
     Chooser, Fault, FaultKind, Listed, Operator, Pause, SavedStore, Seeded, ShortValue, Step,
-    Steps, Stop, Store, Target, answer_to, direct_value, evaluate, plain_value, read_value, target,
+    Steps, Stop, Store, Target, answer_to, evaluate, evaluate_in, plain_value, read_value, target,
 };
 use ptb_text::{Cursor, Letter};
 use rand_core::utils::NextWord;
@@ -256,8 +256,9 @@ fn long_texts(rt: HostRuntime) {
         (Ok((0, 200)), 0),
     ];
     expect_same(&rt, "long texts", found, wanted);
-    expect_direct(&rt, &store, &nested, Some(1));
-    expect_direct(&rt, &store, &[b'('; 253], None);
+    let mut room = Steps::new();
+    expect_lent(&rt, &store, &nested, &mut room, Some(1));
+    expect_lent(&rt, &store, &[b'('; 253], &mut room, None);
 }
 
 // What a variable names, and the place where the cursor is left.
@@ -689,11 +690,12 @@ fn plainly(rt: &impl Abort, store: &Store, text: &[u8]) -> (usize, Option<i16>) 
     (cursor.place(), plain_value(steps.as_slice(), store))
 }
 
-// Tests that the expression at the front of a text has this value where it is evaluated while it is read.
-fn expect_direct(rt: &impl Abort, store: &Store, text: &[u8], value: Option<i16>) {
-    assert!(rt; text.len() <= 255);
-    let found = direct_value(text, store);
-    expect_same(rt, "evaluated while it is read", found, value);
+// Tests that the expression at the front of a text has this value in a room that is lent. Nothing is
+// answered.
+fn expect_lent(rt: &impl Abort, store: &Store, text: &[u8], room: &mut Steps, value: Option<i16>) {
+    let mut cursor = cursor_in_front(rt, text);
+    let found = evaluate_in(&mut cursor, store, &mut Listed::new(&[]), room);
+    expect_same(rt, "in a room that is lent", found.ok(), value);
 }
 
 // A text, its value, and the place after its expression.
@@ -730,14 +732,15 @@ const PLAIN_VALUES: &[(&str, i16, usize)] = &[
     ("A-(A-(A-(A-(A-(A-(A-(A-(A-(A-(A-(A-(A-0))))))))))))", 5, 51),
 ];
 
-// An expression that asks nothing and has a value has it plainly, while it is read, and otherwise, too.
+// An expression that asks nothing and has a value has it plainly, in a room that is lent, and otherwise, too.
 #[test]
 fn plain_values(rt: HostRuntime) {
     let store = lettered_store(&rt, rt.alloc());
+    let mut room = Steps::new();
     for &(text, value, place) in PLAIN_VALUES {
         let found = plainly(&rt, &store, text.as_bytes());
         expect_same(&rt, text, found, (place, Some(value)));
-        expect_direct(&rt, &store, text.as_bytes(), Some(value));
+        expect_lent(&rt, &store, text.as_bytes(), &mut room, Some(value));
         expect_worth(&rt, &store, text, &[], Ok((value, place)), 0);
     }
 }
@@ -773,10 +776,11 @@ const NOT_PLAIN: &[&str] = &[
 #[test]
 fn not_plain(rt: HostRuntime) {
     let store = lettered_store(&rt, rt.alloc());
+    let mut room = Steps::new();
     for &text in NOT_PLAIN {
         let (_, found) = plainly(&rt, &store, text.as_bytes());
         expect_same(&rt, text, found, None);
-        expect_direct(&rt, &store, text.as_bytes(), None);
+        expect_lent(&rt, &store, text.as_bytes(), &mut room, None);
     }
 }
 

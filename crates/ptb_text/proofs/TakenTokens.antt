@@ -1,6 +1,6 @@
 -- This file proves what a cursor takes: its text is x, and n is the next place without a blank.
 -- Main lemmas: `letter_taken`, `number_value` and `word_taken`.
-use Rattle.std.proofs.Common.{◌≡◌, ℕ, ◌+◌, ◌-◌, ◌<◌, ◌≤◌, ◌∙◌, true, cond, List, length}
+use Rattle.std.proofs.Common.{◌≡◌, ℕ, ◌+◌, ◌-◌, ◌<◌, ◌≤◌, ◌∙◌, true, false, cond, List, [], ◌∷◌, length, get_or, slice_get, zero, suc}
 use Rattle.std.proofs.Common.{take, drop, min, Some, None, refl, sym, ap, arith, ℤ, pos}
 use Rattle.std.proofs.Common.{length-take-le, length-drop, to_z, of_z, w16, w64, Fits, SFits, inl}
 use Rattle.std.proofs.Common.{inr}
@@ -21,8 +21,10 @@ use Rattle.ptb_text.specs.Digits.{is_digit, digits_value}
 use Rattle.ptb_text.specs.Words.{past_blanks, next_byte_at, words, first_word, word_at, is_letter}
 use Rattle.ptb_text.specs.Words.{letter_there, letter_at, small_number, number_at, is_number, is_quote}
 use Rattle.ptb_text.specs.Words.{quotation_at, QuotedText, OpenQuote}
-use Rattle.ptb_text.specs.Finding.{LiesAhead, past_byte}
-use Rattle.ptb_text.proofs.FoundParts.{number_ahead}
+use Rattle.ptb_text.specs.Finding.{LiesAhead, past_byte, StandsNext}
+use Rattle.ptb_text.proofs.Digits.{digits_stop, digits_end}
+use Rattle.ptb_text.proofs.FoundParts.{number_ahead, stands_next}
+use Rattle.std.proofs.lemmas.Option.{slice_get-get_or, slice_get_past}
 
 -- what follows from a place on, as the code cuts it
 abbrev pub following : List ℕ → ℕ → List ℕ
@@ -89,6 +91,19 @@ number_absent t x i n k same at count none =
     let there = rw (take_rest x n, same, at, none) at count in
     rw (sym there) refl
 
+no_digits : (x : List ℕ) (n : ℕ) → is_digit (get_or x n 0) ≡ false → prefix_len is_digit (drop n x) ≡ 0
+no_digits x n other = elim (cases_lt n (length x)) [
+  | inl h ↦ digits_stop x n h other
+  | inr h ↦ digits_end x n h
+]
+
+-- the next byte is no digit
+pub number_missing : (t x : List ℕ) (i n b : ℕ) → x ≡ t → n ≡ past_blanks t i → b ≡ get_or x n 0 → is_digit b ≡ false
+    → number_at t i ≡ (Absent, i)
+number_missing t x i n b same at byte other =
+    let none : prefix_len is_digit (drop n x) ≡ 0 = no_digits x n (ap is_digit (sym byte) ∙ other) in
+    number_absent t x i n 0 same at (sym (ap (prefix_len is_digit) (take_rest x n) ∙ none)) refl
+
 -- a number that is there, whichever it is
 number_there : (t x : List ℕ) (i n m k : ℕ) → x ≡ t → n ≡ past_blanks t i → m ≡ past_blanks t i
     → k ≡ prefix_len is_digit (following x n) → (k ≡ 0 → ⊥)
@@ -118,6 +133,35 @@ number_too_big t x i n m k v p same at goes count some value big place =
     let all : 32767 < digits_value (take k (following x n)) = omega (arith, value, high) in
     number_there t x i n m k same at goes count some
     ∙ rw (place, lt-leb (digits_value (take k (following x n))) 32767 all) refl
+
+-- ---- the next byte: b is it, or 0
+
+past_end : (t : List ℕ) (n : ℕ) → length t ≤ n → get_or t n 0 ≡ 0
+past_end [] n h = refl
+past_end (x ∷ t) zero h = absurd (omega (arith, h))
+past_end (x ∷ t) (suc n) h = past_end t n (omega (arith, h))
+
+there : (t : List ℕ) (i n b : ℕ) → n ≡ past_blanks t i → b ≡ get_or t n 0 → n < length t → StandsNext t i (Some b)
+there t i n b at byte h =
+    stands_next t i (Some b) (ap (slice_get t) (sym at) ∙ slice_get-get_or t n 0 h ∙ ap Some (sym byte))
+
+pub next_there : (t x : List ℕ) (i n b : ℕ) → x ≡ t → n ≡ past_blanks t i → b ≡ get_or x n 0 → (b ≡ 0 → ⊥)
+    → StandsNext t i (Some b)
+next_there t x i n b same at byte some =
+    let is : b ≡ get_or t n 0 = byte ∙ ap (λ l. get_or l n 0) same in
+    elim (cases_lt n (length t)) [
+      | inl h ↦ there t i n b at is h
+      | inr h ↦ absurd (some (is ∙ past_end t n h))
+    ]
+
+pub next_within : (t x : List ℕ) (i n b : ℕ) → x ≡ t → n ≡ past_blanks t i → b ≡ get_or x n 0 → n ≤ length x
+    → (n ≡ length x → ⊥) → StandsNext t i (Some b)
+next_within t x i n b same at byte low before =
+    there t i n b at (byte ∙ ap (λ l. get_or l n 0) same) (omega (arith, low, before, ap length same))
+
+pub next_none : (t x : List ℕ) (i n : ℕ) → x ≡ t → n ≡ past_blanks t i → n ≡ length x → StandsNext t i None
+next_none t x i n same at end =
+    stands_next t i None (ap (slice_get t) (sym at) ∙ slice_get_past t n (omega (arith, end, ap length same)))
 
 -- ---- a letter
 

@@ -1,7 +1,7 @@
 // This file has a cursor over a text, which takes what is there piece by piece.
 
 ghost use Rattle.std.specs.Prelude.{◌≡◌, ℕ, ◌+◌, ◌<◌, ◌≤◌, length, if◌then◌else◌, Some, None, IsTrue, IsFalse, IsSome};
-ghost use Rattle.std.specs.Prelude.{IsNone, IfSome, option_map, take, min, position, ◌==◌};
+ghost use Rattle.std.specs.Prelude.{IsNone, IfSome, option_map, take, min, position, ◌==◌, get_or};
 ghost use Rattle.ptb_text.specs.Prelude.{prefix_len, CursorState, bytes_left, is_digit, digits_value, past_byte};
 ghost use Rattle.ptb_text.specs.Prelude.{StandsNext, past_blanks, next_byte_at, is_over, token_at, pair_at, letter_at};
 ghost use Rattle.ptb_text.specs.Prelude.{number_at, is_number, quotation_at, quotation_of, is_text, IsPieceFrom};
@@ -26,6 +26,8 @@ pub struct Cursor<'a> {
     place: usize,
     // the first place from there on at which there is no blank
     next: usize,
+    // the byte there; 0 at the end
+    byte: u8,
 }
 
 impl<'a> Model for Cursor<'a> {
@@ -34,11 +36,38 @@ impl<'a> Model for Cursor<'a> {
     ghost view = { λ c. record { text = c.text.now; place = c.place } };
 
     ghost invariant = { λ c. (c.next ≡ past_blanks c.text.now c.place) × (c.place ≤ c.next)
-        × (c.next ≤ length c.text.now) × (length c.text.now ≤ 255) };
+        × (c.next ≤ length c.text.now) × (length c.text.now ≤ 255)
+        × (c.byte ≡ get_or c.text.now c.next 0) };
+}
+
+// Where the blanks at `place` end, and the byte there: 0 at the end of the text. Most places have no
+// blanks, so that is found without a call.
+#[inline(always)]
+#[tactic(auto, using(crate::proofs::Blanks::past_blanks_stop, crate::proofs::Blanks::past_blanks_end))]
+fn after_blanks(text: &[u8], place: usize) -> (usize, u8)
+    requires { place ≤ length text.now }
+    ensures value { result.0 ≡ past_blanks text.now place }
+    ensures from { place ≤ result.0 }
+    ensures within { result.0 ≤ length text.now }
+    ensures byte { result.1 ≡ get_or text.now result.0 0 }
+{
+    if place == text.len() {
+        return (place, 0);
+    }
+    let byte = text[place];
+    if byte != b' ' {
+        return (place, byte);
+    }
+    let end = blanks_end(text, place);
+    if end == text.len() {
+        return (end, 0);
+    }
+    (end, text[end])
 }
 
 // Where the blanks at `place` end.
-fn after_blanks(text: &[u8], place: usize) -> usize
+#[inline(never)]
+fn blanks_end(text: &[u8], place: usize) -> usize
     requires { place ≤ length text.now }
     ensures value { result ≡ past_blanks text.now place }
     ensures from { place ≤ result }
@@ -51,7 +80,36 @@ fn after_blanks(text: &[u8], place: usize) -> usize
     at
 }
 
-// What the digits in front of the text write, and how many they are.
+// What the digits in front of a text write, and how many they are, where the first byte is a digit: this
+// one. No more is looked at for each digit of a number that isn't too big.
+#[inline(always)]
+#[tactic(auto, using(crate::proofs::Digits::digits_more, crate::proofs::Digits::digits_stop, crate::proofs::Digits::digits_end, crate::proofs::Digits::digits_value_more))]
+fn digits_from(text: &[u8], first: u8) -> (u32, usize)
+    requires some { 0 < length text.now }
+    requires first { first ≡ get_or text.now 0 0 }
+    requires digit { IsTrue (is_digit first) }
+    ensures value { result.0 ≡ min (digits_value (take result.1 text.now)) TOO_BIG }
+    ensures count { result.1 ≡ prefix_len is_digit text.now }
+    ensures some { 0 < result.1 }
+{
+    let mut value = u32::from(first - b'0');
+    let mut count = 1;
+    while count != text.len() {
+        let byte = text[count];
+        if !byte.is_ascii_digit() {
+            return (value, count);
+        }
+        value = value * 10 + u32::from(byte - b'0');
+        if value >= TOO_BIG {
+            return leading_digits(text);
+        }
+        count += 1;
+    }
+    (value, count)
+}
+
+// What the digits in front of a text write, and how many they are.
+#[inline(never)]
 #[tactic(auto, using(crate::proofs::Digits::digits_more, crate::proofs::Digits::digits_stop, crate::proofs::Digits::digits_end, crate::proofs::Digits::digits_value_more))]
 fn leading_digits(text: &[u8]) -> (u32, usize)
     ensures value { result.0 ≡ min (digits_value (take result.1 text.now)) TOO_BIG }
@@ -84,12 +142,12 @@ pub fn number_in_front(text: &[u8]) -> (Number, usize)
     ensures value { number_at text.now 0 ≡ (result.0, result.1) }
     ensures within { result.1 ≤ length text.now }
 {
-    let start = after_blanks(text, 0);
+    let (start, _) = after_blanks(text, 0);
     let (value, count) = leading_digits(&text[start..]);
     if count == 0 {
         return (Number::Absent, 0);
     }
-    let place = after_blanks(text, start + count);
+    let (place, _) = after_blanks(text, start + count);
     match i16::try_from(value) {
         Ok(value) => (Number::Value(value), place),
         Err(_) => (Number::TooBig, place),
@@ -100,20 +158,26 @@ pub fn number_in_front(text: &[u8]) -> (Number, usize)
 pub fn is_all_blank(text: &[u8]) -> bool
     ensures { result ≡ is_over text.now 0 }
 {
-    after_blanks(text, 0) == text.len()
+    after_blanks(text, 0).0 == text.len()
 }
 
 impl<'a> Cursor<'a> {
     /// A cursor at a place of a text, which counts the bytes before it: at most the text's length.
     ///
     /// The text has at most 255 bytes, as every statement and every input line has.
+    #[inline(always)]
     pub fn new(text: &'a [u8], place: usize) -> Self
         requires within { place ≤ length text.now }
         requires short { length text.now ≤ 255 }
         ensures { result ≡ record { text = text.now; place = place } }
     {
-        let next = after_blanks(text, place);
-        Cursor { text, place, next }
+        let (next, byte) = after_blanks(text, place);
+        Cursor {
+            text,
+            place,
+            next,
+            byte,
+        }
     }
 
     /// How many bytes are before the place.
@@ -140,6 +204,7 @@ impl<'a> Cursor<'a> {
     }
 
     /// Goes to a place of the text: at most its length. What was taken after it can be taken again.
+    #[inline(always)]
     pub fn go_to(&mut self, place: usize)
         requires { place ≤ length self.old.text }
         ensures { self.new ≡ record { text = self.old.text; place = place } }
@@ -155,6 +220,7 @@ impl<'a> Cursor<'a> {
     }
 
     // Goes to the place `end`, and past the blanks there.
+    #[inline(always)]
     #[tactic(auto, using(crate::proofs::Blanks::past_blanks_twice))]
     fn pass_to(&mut self, end: usize)
         requires { end ≤ length self.old.text }
@@ -162,20 +228,30 @@ impl<'a> Cursor<'a> {
         ensures place { self.new.place ≡ past_blanks self.old.text end }
         ensures from { end ≤ self.new.place }
     {
-        self.place = after_blanks(self.text, end);
-        self.next = self.place;
+        let (place, byte) = after_blanks(self.text, end);
+        self.place = place;
+        self.next = place;
+        self.byte = byte;
     }
 
     /// The next byte, or `None` at the end. Nothing is taken.
     ///
     /// It says what can be found at the place, so that a caller need not try anything else.
+    #[inline(always)]
     pub fn next_byte(&self) -> Option<u8>
         ensures { StandsNext self.now.text self.now.place result }
     {
-        self.text.get(self.next).copied()
+        if self.byte != 0 {
+            return Some(self.byte);
+        }
+        if self.next == self.text.len() {
+            return None;
+        }
+        Some(self.byte)
     }
 
     /// Takes the next byte, whichever it is. There must be one, as `next_byte` says.
+    #[inline(always)]
     pub fn take_byte(&mut self)
         requires { IsSome (next_byte_at self.old.text self.old.place) }
         ensures place { self.new.place ≡ past_byte self.old.text self.old.place }
@@ -186,6 +262,7 @@ impl<'a> Cursor<'a> {
     }
 
     /// Takes this byte, if it is next.
+    #[inline(always)]
     pub fn token(&mut self, byte: u8) -> bool
         ensures value { token_at byte self.old.text self.old.place
             ≡ (if result then Some self.new.place else None) }
@@ -204,6 +281,7 @@ impl<'a> Cursor<'a> {
     }
 
     /// Takes these two bytes, if they are next with nothing between them.
+    #[inline(always)]
     #[tactic(auto, using(crate::proofs::Pairs::pair_there, crate::proofs::Pairs::pair_other, crate::proofs::Pairs::pair_other_second, crate::proofs::Pairs::pair_cut))]
     pub fn pair(&mut self, first: u8, second: u8) -> bool
         ensures value { pair_at first second self.old.text self.old.place
@@ -214,7 +292,7 @@ impl<'a> Cursor<'a> {
         ensures absent { IsFalse result → self.new.place ≡ self.old.place }
     {
         if self.next + 1 < self.text.len()
-            && self.text[self.next] == first
+            && self.byte == first
             && self.text[self.next + 1] == second
         {
             self.pass_to(self.next + 2);
@@ -225,6 +303,7 @@ impl<'a> Cursor<'a> {
     }
 
     /// Takes a letter A to Z, if one is next.
+    #[inline(always)]
     pub fn letter(&mut self) -> Option<Letter>
         ensures value { letter_at self.old.text self.old.place
             ≡ option_map (λ b. (b, self.new.place)) result }
@@ -242,6 +321,7 @@ impl<'a> Cursor<'a> {
     /// Takes the longest run of digits that is next.
     ///
     /// A number over 32767 is taken too. Where there is no digit, nothing is taken.
+    #[inline(always)]
     pub fn number(&mut self) -> Number
         ensures value { number_at self.old.text self.old.place ≡ (result, self.new.place) }
         ensures text { self.new.text ≡ self.old.text }
@@ -249,10 +329,10 @@ impl<'a> Cursor<'a> {
         ensures left { bytes_left self.new ≤ bytes_left self.old }
         ensures absent { IsFalse (is_number result) → self.new.place ≡ self.old.place }
     {
-        let (value, count) = leading_digits(&self.text[self.next..]);
-        if count == 0 {
+        if !self.byte.is_ascii_digit() {
             return Number::Absent;
         }
+        let (value, count) = digits_from(&self.text[self.next..], self.byte);
         self.pass_to(self.next + count);
         match i16::try_from(value) {
             Ok(value) => Number::Value(value),

@@ -3,7 +3,6 @@ use Rattle.std.proofs.Common.{refl}
 use Rattle.ptb_expr.specs.Spells.{Expr}
 use Rattle.ptb_expr.specs.Reading.{item_of, expression}
 use Rattle.ptb_expr.proofs.Coded.{coded, worked_out, is_whole_then}
-use Rattle.ptb_expr.proofs.ReadParts.{if_some}
 use Rattle.ptb_expr.proofs.Evaluation.{where_whole, where_faulty}
 use Rattle.ptb_expr.proofs.eval.evaluate_in.Goals as goal
 
@@ -13,9 +12,9 @@ returns g c =
     let i = c.args.cursor.now.place in
     let spelled = c.spelling_laws.ensures.expression_spelled t i in
     let code = coded c.spelling_laws.ensures t Expr i c.read_expr.new.cursor.place
-    (expression t i) c.read_expr.new.actions c.read_expr.result spelled
-    (rw c.clear.ensures at (if_some c.read_expr.result _ _ c.read_expr.ensures.reads (λ v h. h t refl)))
-    (λ none. rw c.clear.ensures at (c.read_expr.ensures.fails none refl t refl)) in
+    (expression t i) c.read_expr.new.steps c.read_expr.result spelled
+    (λ some. rw c.clear.ensures at (c.read_expr.ensures.reads some t refl))
+    (λ none. rw c.clear.ensures at (c.read_expr.ensures.fails none t refl)) in
     let value = worked_out _ _ _ _ _ _ _ _ code c.run.ensures in
     let whole = is_whole_then _ _ _ _ _ _ _ _ code c.run.ensures in record {
       text = c.read_expr.ensures.text;
