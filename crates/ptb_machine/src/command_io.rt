@@ -65,7 +65,10 @@ impl<'a, C: Chooser, S: Screen, L: LineSource> CommandIo<'a, C, S, L> {
             (show_action bytes.now) goes_on result }
         ensures same { SameDevices self.old self.new }
     {
-        pending.show(self.screen, &mut self.fresh, bytes)
+        let mut fresh = self.fresh;
+        let result = pending.show(self.screen, &mut fresh, bytes);
+        self.fresh = fresh;
+        result
     }
 
     /// Shows what was gathered if there is no room for so many bytes more.
@@ -99,6 +102,9 @@ impl<'a, C: Chooser, S: Screen, L: LineSource> CommandIo<'a, C, S, L> {
         ensures chooser { self.new.chooser ≡ self.old.chooser }
         ensures same { SameDevices self.old self.new }
     {
-        pending.flush(self.screen, &mut self.fresh)
+        let mut fresh = self.fresh;
+        let result = pending.flush(self.screen, &mut fresh);
+        self.fresh = fresh;
+        result
     }
 }
