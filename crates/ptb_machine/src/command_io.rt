@@ -93,6 +93,8 @@ impl<'a, C: Chooser, S: Screen, L: LineSource> CommandIo<'a, C, S, L> {
     }
 
     /// Shows what was gathered. Nothing is gathered then, also where the screen fails.
+    // Inlined, as are the others, so that the devices stay in registers of the processor.
+    #[inline(always)]
     pub(crate) fn flush(&mut self, pending: &mut PendingOutput) -> Result<(), Stop>
         ensures comes { (given : List (List ℕ)) (cells : Cells) → Comes nothing_refused
             (due_trace C.choices S.Screen L.most self.old given cells pending.old)
