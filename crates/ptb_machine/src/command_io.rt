@@ -65,7 +65,10 @@ impl<'a, C: Chooser, S: Screen, L: LineSource> CommandIo<'a, C, S, L> {
             (show_action bytes.now) goes_on result }
         ensures same { SameDevices self.old self.new }
     {
-        pending.show(self.screen, &mut self.fresh, bytes)
+        let mut fresh = self.fresh;
+        let result = pending.show(self.screen, &mut fresh, bytes);
+        self.fresh = fresh;
+        result
     }
 
     /// Shows what was gathered if there is no room for so many bytes more.
@@ -90,6 +93,8 @@ impl<'a, C: Chooser, S: Screen, L: LineSource> CommandIo<'a, C, S, L> {
     }
 
     /// Shows what was gathered. Nothing is gathered then, also where the screen fails.
+    // Inlined, as are the others, so that the devices stay in registers of the processor.
+    #[inline(always)]
     pub(crate) fn flush(&mut self, pending: &mut PendingOutput) -> Result<(), Stop>
         ensures comes { (given : List (List ℕ)) (cells : Cells) → Comes nothing_refused
             (due_trace C.choices S.Screen L.most self.old given cells pending.old)
@@ -99,6 +104,9 @@ impl<'a, C: Chooser, S: Screen, L: LineSource> CommandIo<'a, C, S, L> {
         ensures chooser { self.new.chooser ≡ self.old.chooser }
         ensures same { SameDevices self.old self.new }
     {
-        pending.flush(self.screen, &mut self.fresh)
+        let mut fresh = self.fresh;
+        let result = pending.flush(self.screen, &mut fresh);
+        self.fresh = fresh;
+        result
     }
 }

@@ -53,7 +53,10 @@ pub(crate) fn result_of<C: Chooser, S: Screen, L: LineSource>(
     match stop {
         Stop::Fault(fault) => {
             let (number, text) = line_at(program, statement);
-            report(io.screen, &mut io.fresh, number.unsigned_abs(), text, fault)?;
+            let mut fresh = io.fresh;
+            let reported = report(io.screen, &mut fresh, number.unsigned_abs(), text, fault);
+            io.fresh = fresh;
+            reported?;
             Ok(Some(ending_of(fault.kind)))
         }
         _ => stopped(stop),

@@ -24,27 +24,27 @@ returns-in_default g c = record {
   same = record { chooser = refl; screen = refl; source = refl; rules = refl };
 }
 
-pub returns-in_err-report-in-Fault : goal.returns-in_err-report-in-Fault
-returns-in_err-report-in-Fault g c = record {
+pub returns-in_err-reported-in-Fault : goal.returns-in_err-reported-in-Fault
+returns-in_err-reported-in-Fault g c = record {
   comes = λ given cells n text at.
-      let line = line_told g (goal.at.returns-in_err-report-in-Fault g c).After-unsigned_abs n text at in
+      let line = line_told g (goal.at.returns-in_err-reported-in-Fault g c).After-unsigned_abs n text at in
       let result = err_from_is_err_and _ c.from_residual.ensures.1 in
-      result_reported _ _ n text c.in-Fault.fault c.args.done _ (Err c.in_err-report-in-Fault.field-0.0)
+      result_reported _ _ n text c.in-Fault.fault c.args.done _ (Err c.in_err-reported-in-Fault.field-0.0)
       (c.in-Err.is ∙ ap Err c.in-Fault.is) (result.1 ∙ ap Err result.2)
-      (rw (line.0, line.1) at (c.in_err-report-in-Fault.ensures
+      (rw (line.0, line.1) at (c.in_err-reported-in-Fault.ensures
       (io_devices g.C.Chooser.choices g.S.Screen g.L.LineSource.most c.args.io.now given) cells));
   chooser = refl;
   same = record { chooser = refl; screen = refl; source = refl; rules = refl };
 }
 
-pub returns-in_ok-report-in-Fault : goal.returns-in_ok-report-in-Fault
-returns-in_ok-report-in-Fault g c = record {
+pub returns-in_ok-reported-in-Fault : goal.returns-in_ok-reported-in-Fault
+returns-in_ok-reported-in-Fault g c = record {
   comes = λ given cells n text at.
-      let line = line_told g (goal.at.returns-in_ok-report-in-Fault g c).After-unsigned_abs n text at in
+      let line = line_told g (goal.at.returns-in_ok-reported-in-Fault g c).After-unsigned_abs n text at in
       result_reported _ _ n text c.in-Fault.fault c.args.done _ (Ok tt)
       (c.in-Err.is ∙ ap Err c.in-Fault.is)
       (ap (λ e. Ok (Some e)) c.ending_of.ensures)
-      (rw (line.0, line.1) at (c.in_ok-report-in-Fault.ensures
+      (rw (line.0, line.1) at (c.in_ok-reported-in-Fault.ensures
       (io_devices g.C.Chooser.choices g.S.Screen g.L.LineSource.most c.args.io.now given) cells));
   chooser = refl;
   same = record { chooser = refl; screen = refl; source = refl; rules = refl };
