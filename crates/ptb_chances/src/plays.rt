@@ -1,6 +1,6 @@
 // This file plays a run on from where it is, with the answers of a plan.
 
-ghost use Rattle.std.specs.Prelude.{◌≡◌, ◌-◌, ◌<◌, ◌≤◌, false, true, drop, length, take, IfOk};
+ghost use Rattle.std.specs.Prelude.{◌≡◌, ◌-◌, ◌<◌, ◌≤◌, ℕ, false, true, drop, length, take, IfOk};
 ghost use Rattle.ptb_answers.specs.Outcome.{is_open};
 ghost use Rattle.ptb_machine.specs.State.{State};
 ghost use Rattle.ptb_explore.specs.PlannedPlays.{run_from};
@@ -52,36 +52,36 @@ pub(crate) fn play_plan(
     player: &mut Player,
     rules: Rules,
     machine: &mut Machine,
-    plan: &mut PlanChooser<'_>,
+    answers: &[i16],
     console: &mut Console<'_>,
 ) -> Result<Played, AllocError>
     requires unspent { machine.old.spent ≡ false }
     requires within { console.old.source.taken ≤ length console.old.source.lines }
-    requires none_given { plan.old.given ≡ 0 }
     requires opens { (S : State) × StandsAt player.old rules machine.old
         (drop console.old.source.taken console.old.source.lines) console.old.screen S
-        × (is_open (run_from player.old rules S plan.old.answers) ≡ true) }
+        × (is_open (run_from player.old rules S answers.now) ≡ true) }
     ensures program { player.new ≡ player.old }
     ensures same_lines { console.new.source.lines ≡ console.old.source.lines }
     ensures within { IfOk result (λ _.
         console.new.source.taken ≤ length console.old.source.lines) }
-    ensures plays { IfOk result (λ played. (S : State) →
+    ensures plays { IfOk result (λ played. (given : ℕ) × ((S : State) →
         StandsAt player.old rules machine.old
         (drop console.old.source.taken console.old.source.lines) console.old.screen S
-        → PlaysTo player.old rules S (take plan.new.given plan.old.answers) plan.old.answers
+        → PlaysTo player.old rules S (take given answers.now) answers.now
         machine.new (drop console.new.source.taken console.old.source.lines) console.new.screen
-        played) }
+        played)) }
     ensures goes { IfOk result (λ played. played ≡ Played.Goes →
         (machine.new.spent ≡ false)
         × (rules.limit - machine.new.steps < rules.limit - machine.old.steps)) }
 {
     run_laws();
+    let mut plan = PlanChooser::new(answers);
     'commands: loop {
         player.advance(machine, rules.limit);
         match player.step(
             machine,
             rules,
-            plan,
+            &mut plan,
             &mut console.screen,
             &mut console.source,
         ) {

@@ -5,7 +5,6 @@ ghost use Rattle.ptb_chances.specs.Prelude.{is_open, State, run_from, ComesTo, G
 ghost use Rattle.ptb_chances.specs.Prelude.{StandsAt, StandsAtPlace, FitsProgram, QuietTurns};
 
 use crate::last_line::last_lines;
-use crate::planned::PlanChooser;
 use crate::plays::{Console, Played, play_plan};
 use crate::worklist::{Place, Plan};
 use ptb_machine::{Ending, Machine, Player, Rules, TextScreen, run_laws};
@@ -45,15 +44,13 @@ impl<'p, 'l> Stage<'p, 'l> {
         self.trial.restore(alloc, &place.machine)?;
         self.console.screen = TextScreen::from_vec(Vec::from_slice(alloc, &place.shown)?);
         self.console.source.go(place.taken);
-        let mut chooser = PlanChooser::new(&plan.answers);
-        let played = play_plan(
+        play_plan(
             &mut self.player,
             self.rules,
             &mut self.trial,
-            &mut chooser,
+            &plan.answers,
             &mut self.console,
-        )?;
-        Ok(played)
+        )
     }
 
     // Does the commands that are next and ask nothing, and notes where the run is then.
@@ -103,15 +100,13 @@ impl<'p, 'l> Stage<'p, 'l> {
         run_laws();
         'commands: loop {
             self.advance(alloc)?;
-            let mut chooser = PlanChooser::new(&[]);
-            let played = play_plan(
+            match play_plan(
                 &mut self.player,
                 self.rules,
                 &mut self.trial,
-                &mut chooser,
+                &[],
                 &mut self.console,
-            )?;
-            match played {
+            )? {
                 Played::Over(ending) => return Ok(Some(ending)),
                 Played::Asks(_) => return Ok(None),
                 Played::Goes => {}

@@ -309,14 +309,20 @@ module _ (laws : RunLaws) (p : StoredProgram) (input : List (List ℕ)) (rules :
         (devices d (text_state t) few rules.choose given) r) is (steps u.state rest
         (record { represents = u.represents; lines = u.left_is ∙ l; follow = follows; choose = u.choose }))
 
-    pub never_unread : r ≡ Err faults.Read → ⊥
+    never_unread : r ≡ Err faults.Read → ⊥
     never_unread is = let w : Fault faults.Read = faulted faults.Read is in elim w.broken.0.by [ inl x ↦ x | inr x ↦ x ]
 
-    pub never_unwritten : r ≡ Err faults.Write → ⊥
+    never_unwritten : r ≡ Err faults.Write → ⊥
     never_unwritten is =
         let w : Fault faults.Write = faulted faults.Write is in
         let none : w.screen.failures ≡ 0 = w.comes.exchanges.unfailed in
         elim w.broken.0 [ inl x ↦ absurd (omega (arith, none, x)) | inr x ↦ absurd (omega (arith, none, x)) ]
+
+    pub only_memory : (r ≡ Err faults.Spent → ⊥) → (f : RunFault) → r ≡ Err f → f ≡ faults.Memory
+    only_memory unspent faults.Memory is = refl
+    only_memory unspent faults.Read is = absurd (never_unread is)
+    only_memory unspent faults.Write is = absurd (never_unwritten is)
+    only_memory unspent faults.Spent is = absurd (unspent is)
 
 -- ---- a chooser that took the same answers
 

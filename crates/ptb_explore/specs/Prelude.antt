@@ -32,7 +32,8 @@ pub use Rattle.ptb_explore.specs.PlannedPlays.{PlayEnds, IsRunPrefix}
 pub use Rattle.ptb_explore.specs.Plans.{PlanEndsWith, IsFresh, IsPosition, front_at, IsTaken, IsTakenAlone, IsLastBelow}
 pub use Rattle.ptb_explore.specs.Plans.{AreAtBounds, HasPlan, PlansNext}
 pub use Rattle.ptb_explore.specs.Recorders.{recorded, choices_of}
-pub use Rattle.ptb_explore.specs.Report.{report}
-pub use Rattle.ptb_explore.specs.ReportText.{asked_items, field, report_ending, report_text}
+pub use Rattle.ptb_explore.specs.Report.{ending_word, report}
+pub use Rattle.ptb_explore.specs.ReportText.{asked_items, field, list_line, report_ending, report_text, text_of}
+pub use Rattle.ptb_explore.specs.ReportText.{WritesText}
 pub use Rattle.ptb_explore.specs.RunTree.{At, IsLast, Start, runs_left, tree, IsNextRun, IsRun, begins_with}
 pub use Rattle.ptb_explore.specs.Sampling.{SampleLaws, PlaysDrawn, WritesRun, WritesSample}

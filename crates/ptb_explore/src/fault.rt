@@ -2,9 +2,9 @@
 
 ghost use Rattle.std.specs.Prelude.{◌≡◌};
 ghost use Rattle.ptb_explore.specs.Listing.{fault_after};
-ghost use Rattle.ptb_explore.specs.declared.fault.OpenFault.TheVariants.{Memory};
 
 use crate::mismatch::Mismatch;
+use ptb_machine::RunFault;
 use ptb_text::DeviceFault;
 use std::alloc::AllocError;
 use thiserror::Error;
@@ -36,6 +36,16 @@ impl ExploreFault {
     }
 }
 
+/// The refusal of memory that ended a run whose bytes and lines are in memory.
+pub(crate) fn memory_refusal(fault: RunFault) -> AllocError
+    requires { fault ≡ RunFault.Memory }
+{
+    match fault {
+        RunFault::Memory => AllocError,
+        RunFault::Read | RunFault::Write | RunFault::Spent => unreachable!(),
+    }
+}
+
 /// Why there is no explorer of the runs that are asked for.
 #[derive(Clone, Copy, Debug, PartialEq, Eq, Error)]
 pub enum OpenFault {
@@ -51,6 +61,8 @@ pub enum OpenFault {
 }
 
 impl From<AllocError> for OpenFault {
+    ghost use Rattle.ptb_explore.specs.declared.fault.OpenFault.TheVariants.{Memory};
+
     ghost from_gives = { λ _ fault. fault ≡ Memory };
 
     fn from(_refusal: AllocError) -> OpenFault {

@@ -5,8 +5,9 @@ ghost use Rattle.ptb_explore.specs.Prelude.{play, AreCopies, more_played, play_l
 ghost use Rattle.ptb_explore.specs.Prelude.{PlayEnds, IsRunPrefix, choices_of, recorded};
 
 use crate::copies::Progress;
+use crate::fault::memory_refusal;
 use crate::runner::Runner;
-use ptb_machine::{Ending, Lines, Machine, RunFault, TextScreen, run_laws};
+use ptb_machine::{Ending, Lines, Machine, TextScreen, run_laws};
 use std::alloc::AllocError;
 
 impl<'a> Runner<'a> {
@@ -54,11 +55,7 @@ impl<'a> Runner<'a> {
             {
                 Ok(None) => {}
                 Ok(Some(ending)) => return Ok(ending),
-                Err(RunFault::Memory) => return Err(AllocError),
-                // Bytes and lines are in memory, and the run isn't over.
-                Err(RunFault::Read) => unreachable!(),
-                Err(RunFault::Write) => unreachable!(),
-                Err(RunFault::Spent) => unreachable!(),
+                Err(fault) => return Err(memory_refusal(fault)),
             }
             let taken = self.trial.given;
             let shown = screen.len();

@@ -1,10 +1,7 @@
 // This file has the reports of runs.
 
-ghost use Rattle.std.specs.Prelude.{◌≡◌, [], OnOk, OnErr};
-ghost use Rattle.std.specs.Io.KnownBytes.{Appends};
-ghost use Rattle.ptb_text.specs.Device.{TakesSome, HasFailed};
-ghost use Rattle.ptb_explore.specs.ReportText.{asked_items, report_text};
-ghost use Rattle.ptb_explore.specs.Report.{ending_word};
+ghost use Rattle.std.specs.Prelude.{◌≡◌, []};
+ghost use Rattle.ptb_explore.specs.Prelude.{asked_items, ending_word, report_text, WritesText};
 
 use crate::report_writer::ReportWriter;
 use ptb_answers::{Asked, Form};
@@ -49,14 +46,10 @@ impl Report {
         reports: &mut ReportWriter,
         writer: &mut W,
     ) -> Result<(), DeviceFault>
-        ensures ok { OnOk result (Appends (W.contents writer.old) (W.contents writer.new)
-            (report_text (asked_items form self.now.asked.items) (ending_word self.now.ending)
-            self.now.steps self.now.transcript.items)) }
-        ensures fault { OnErr result (TakesSome (W.contents writer.old) (W.contents writer.new)
-            (report_text (asked_items form self.now.asked.items) (ending_word self.now.ending)
-            self.now.steps self.now.transcript.items)) }
-        ensures failed { OnErr result (HasFailed (W.failures writer.old) (W.failures writer.new)) }
-        ensures unfailed { OnOk result (W.failures writer.new ≡ W.failures writer.old) }
+        ensures { WritesText (report_text (asked_items form self.now.asked.items)
+            (ending_word self.now.ending) self.now.steps self.now.transcript.items)
+            (W.contents writer.old) (W.contents writer.new)
+            (W.failures writer.old) (W.failures writer.new) result }
     {
         reports.write(
             writer,

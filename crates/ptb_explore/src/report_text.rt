@@ -1,10 +1,10 @@
 // This file writes the report of a run, and lists of answers.
 
 ghost use Rattle.std.specs.Prelude.{◌≡◌, ◌==◌, [], ◌++◌, IfErr, OnOk, OnErr, codes, if◌then◌else◌};
-ghost use Rattle.std.specs.Io.KnownBytes.{Appends};
-ghost use Rattle.ptb_text.specs.Device.{Gathers, TakesSome, HasFailed};
-ghost use Rattle.ptb_answers.specs.AnswerText.{in_form, item_text, spelling};
-ghost use Rattle.ptb_explore.specs.ReportText.{asked_items, list_line, report_text};
+ghost use Rattle.ptb_text.specs.Device.{Gathers};
+ghost use Rattle.ptb_answers.specs.AnswerText.{spelling};
+ghost use Rattle.ptb_explore.specs.Prelude.{Appends, TakesSome, HasFailed, in_form, item_text};
+ghost use Rattle.ptb_explore.specs.Prelude.{asked_items, list_line, text_of, WritesText};
 
 use itoa::Buffer;
 use ptb_answers::{Asked, Form, Marked};
@@ -88,33 +88,44 @@ fn put_answers<W: Write>(
     Ok(())
 }
 
+/// What the report of a run has.
+#[derive(Clone, Copy)]
+pub(crate) struct Parts<'a> {
+    /// How it has the answers.
+    pub(crate) form: Form,
+    /// The answers that the run took, each with its bound.
+    pub(crate) asked: &'a [Asked],
+    /// The word of its ending.
+    pub(crate) word: &'a [u8],
+    /// How many commands it began.
+    pub(crate) steps: u32,
+    /// All that it showed.
+    pub(crate) transcript: &'a [u8],
+}
+
 /// Writes the report of a run piece by piece, whatever its length.
-pub(crate) fn write_in_pieces<W: Write>(
-    out: &mut W,
-    form: Form,
-    asked: &[Asked],
-    word: &[u8],
-    steps: u32,
-    transcript: &[u8],
-) -> Result<(), DeviceFault>
-    ensures ok { OnOk result (Appends (W.contents out.old) (W.contents out.new)
-        (report_text (asked_items form asked.now) word.now steps transcript.now)) }
-    ensures fault { OnErr result (TakesSome (W.contents out.old) (W.contents out.new)
-        (report_text (asked_items form asked.now) word.now steps transcript.now)) }
-    ensures failed { OnErr result (HasFailed (W.failures out.old) (W.failures out.new)) }
-    ensures kind { IfErr result (λ fault. fault ≡ DeviceFault.Write) }
-    ensures unfailed { OnOk result (W.failures out.new ≡ W.failures out.old) }
+pub(crate) fn write_in_pieces<W: Write>(out: &mut W, report: &Parts) -> Result<(), DeviceFault>
+    ensures { WritesText (text_of report.now) (W.contents out.old) (W.contents out.new)
+        (W.failures out.old) (W.failures out.new) result }
 {
     let mut pending = Pending::new();
     pending.put(out, b"RUN ")?;
-    put_answers(out, &mut pending, form, asked)?;
+    put_answers(out, &mut pending, report.form, report.asked)?;
     let (mut counted, mut sized) = (Buffer::new(), Buffer::new());
-    let steps = counted.format(steps).as_bytes();
-    let size = sized.format(transcript.len()).as_bytes();
+    let steps = counted.format(report.steps).as_bytes();
+    let size = sized.format(report.transcript.len()).as_bytes();
     pending.finish(
         out,
         &[
-            b" ", word, b" ", steps, b" ", size, b"\n", transcript, b"\n",
+            b" ",
+            report.word,
+            b" ",
+            steps,
+            b" ",
+            size,
+            b"\n",
+            report.transcript,
+            b"\n",
         ],
     )
 }

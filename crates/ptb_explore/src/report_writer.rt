@@ -3,12 +3,12 @@
 ghost use Rattle.std.specs.Prelude.{◌≡◌, ◌==◌, ◌+◌, ◌<◌, ◌≤◌, [], ◌++◌, length, take, codes, decimal, None, Some};
 ghost use Rattle.std.specs.Prelude.{IfErr, OnOk, OnErr, IsTrue, IsFalse, if◌then◌else◌, ℤ, Option};
 ghost use Rattle.ptb_explore.specs.Prelude.{signed_decimal, Appends, TakesSome, HasFailed, in_form, item_text};
-ghost use Rattle.ptb_explore.specs.Prelude.{asked_items, field, report_ending, report_text, begun, item_of, items_of};
-ghost use Rattle.ptb_explore.specs.Prelude.{AreEnds, BeginsWith, KeepsItem};
+ghost use Rattle.ptb_explore.specs.Prelude.{asked_items, field, report_ending, report_text, text_of, begun, item_of};
+ghost use Rattle.ptb_explore.specs.Prelude.{items_of, AreEnds, BeginsWith, KeepsItem};
 
-use crate::report_text::write_in_pieces;
+use crate::report_text::{Parts, write_in_pieces};
 use arrayvec::ArrayVec;
-use itoa::Buffer;
+use itoa::{Buffer, Integer};
 use ptb_answers::{Asked, Form};
 use ptb_text::{ByteBuffer, DeviceFault, Write};
 
@@ -141,17 +141,17 @@ fn add_count(text: &mut Text, number: usize)
     if number < 100 {
         add_short(text, number)
     } else {
-        add_long_count(text, number)
+        add_long(text, number)
     }
 }
 
 // Adds the text of a number that may have many digits.
 // Not inlined, since the room for the digits is cleared.
 #[inline(never)]
-fn add_long_count(text: &mut Text, number: usize)
-    requires { length text.old + 20 ≤ 4096 }
-    ensures text { text.new ≡ text.old ++ decimal number }
-    ensures length { length text.new ≤ length text.old + 20 }
+fn add_long<N: Integer>(text: &mut Text, number: N)
+    requires { length text.old + N.MAX_STR_LEN ≤ 4096 }
+    ensures text { text.new ≡ text.old ++ N.text number }
+    ensures length { length text.new ≤ length text.old + N.MAX_STR_LEN }
 {
     text.append(Buffer::new().format(number).as_bytes());
 }
@@ -165,18 +165,8 @@ fn add_number(text: &mut Text, number: i16)
 {
     match usize::try_from(number) {
         Ok(short) if short < 100 => add_short(text, short),
-        _ => add_long_number(text, number),
+        _ => add_long(text, number),
     }
-}
-
-// Adds the text of an answer or a bound of any length; not inlined for the same reason.
-#[inline(never)]
-fn add_long_number(text: &mut Text, number: i16)
-    requires { length text.old + 6 ≤ 4096 }
-    ensures text { text.new ≡ text.old ++ signed_decimal number }
-    ensures length { length text.new ≤ length text.old + 6 }
-{
-    text.append(Buffer::new().format(number).as_bytes());
 }
 
 // Adds the item at a place, after a comma if it isn't the first.
@@ -303,17 +293,10 @@ impl ReportWriter {
 
     // Makes the text of a report that has answers. Says whether there was room for it.
     #[inline(always)]
-    fn gather(
-        &mut self,
-        form: Form,
-        asked: &[Asked],
-        word: &[u8],
-        steps: u32,
-        transcript: &[u8],
-    ) -> bool
-        ensures { IsTrue result → self.new.text
-            ≡ report_text (asked_items form asked.now) word.now steps transcript.now }
+    fn gather(&mut self, report: &Parts) -> bool
+        ensures { IsTrue result → self.new.text ≡ text_of report.now }
     {
+        let (form, asked) = (report.form, report.asked);
         if asked.is_empty() {
             return false;
         }
@@ -323,7 +306,7 @@ impl ReportWriter {
         let same = count_same(self.kept.as_slice(), form, asked);
         cut(&mut self.kept, &mut self.text, same);
         let listed = add_items(&mut self.kept, &mut self.text, form, asked, same);
-        listed && add_ending(&mut self.text, word, steps, transcript)
+        listed && add_ending(&mut self.text, report.word, report.steps, report.transcript)
     }
 
     /// Writes the report of a run: its answers as the form has them, the word of its ending, its
@@ -351,9 +334,16 @@ impl ReportWriter {
         ensures kind { IfErr result (λ fault. fault ≡ DeviceFault.Write) }
         ensures unfailed { OnOk result (W.failures out.new ≡ W.failures out.old) }
     {
-        if self.gather(form, asked, word, steps, transcript) {
+        let report = Parts {
+            form,
+            asked,
+            word,
+            steps,
+            transcript,
+        };
+        if self.gather(&report) {
             return out.write_all(self.text.as_slice());
         }
-        write_in_pieces(out, form, asked, word, steps, transcript)
+        write_in_pieces(out, &report)
     }
 }

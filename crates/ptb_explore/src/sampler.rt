@@ -6,11 +6,11 @@ ghost use Rattle.ptb_explore.specs.Prelude.{Represents, first_state, play, most_
 ghost use Rattle.ptb_explore.specs.Prelude.{FailsOnlyToWrite, FailsAfterSome, FailsOnlyAfterSome, report, PlaysDrawn};
 ghost use Rattle.ptb_explore.specs.Prelude.{SampleLaws, WritesRun, WritesSample};
 
-use crate::fault::ExploreFault;
+use crate::fault::{ExploreFault, memory_refusal};
 use crate::report::word;
 use crate::report_writer::ReportWriter;
 use ptb_answers::{Form, Seeded};
-use ptb_machine::{Ending, Line, Lines, Machine, Player, Rules, RunFault, TextScreen, run_laws};
+use ptb_machine::{Ending, Line, Lines, Machine, Player, Rules, TextScreen, run_laws};
 use ptb_text::{DeviceFault, Program, Write};
 use std::alloc::{AllocError, Global};
 
@@ -66,11 +66,7 @@ fn play_drawn(
         match player.step(machine, rules, chooser, screen, &mut source) {
             Ok(None) => {}
             Ok(Some(ending)) => return Ok(ending),
-            Err(RunFault::Memory) => return Err(AllocError),
-            // Bytes and lines are in memory, and the run isn't over.
-            Err(RunFault::Read) => unreachable!(),
-            Err(RunFault::Write) => unreachable!(),
-            Err(RunFault::Spent) => unreachable!(),
+            Err(fault) => return Err(memory_refusal(fault)),
         }
     }
 }

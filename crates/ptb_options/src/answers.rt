@@ -12,84 +12,48 @@ use ptb_answers::Marked;
 use std::alloc::Global;
 use std::marker::Model;
 
-/// A list of answers to RND. A list that was read from a text has answers from 1 to 32767; the type
-/// holds any.
+/// A list of items that are answers to RND. A list that was read from a text has numbers from 1 to
+/// 32767; the type holds any.
 ///
-/// [`From`] makes it of a `Vec`, and [`Answers::into_vec`] returns that; neither takes memory.
+/// [`From`] makes it of a `Vec`, and [`ItemList::into_vec`] returns that; neither takes memory.
 #[derive(Debug, Drop)]
-pub struct Answers {
-    items: Vec<i16>,
+pub struct ItemList<T> {
+    items: Vec<T>,
 }
 
-impl Model for Answers {
-    ghost Value = { List ℤ };
+/// A list of answers.
+pub type Answers = ItemList<i16>;
 
-    ghost view = { λ a. a.items.items };
+/// A list of answers, each with its bound or without.
+pub type MarkedAnswers = ItemList<Marked>;
+
+impl<T> Model for ItemList<T> {
+    ghost Value = { List T };
+
+    ghost view = { λ l. l.items.items };
 }
 
-impl Answers {
-    /// The answers, in order.
-    pub fn as_slice(&self) -> &[i16]
+impl<T> ItemList<T> {
+    /// The items, in order.
+    pub fn as_slice(&self) -> &[T]
         ensures { result.now ≡ self.now }
     {
         &self.items
     }
 
     /// The `Vec` that the list was made from.
-    pub fn into_vec(self) -> Vec<i16>
+    pub fn into_vec(self) -> Vec<T>
         ensures { result.items ≡ self }
     {
         self.items
     }
 }
 
-impl From<Vec<i16>> for Answers {
-    ghost from_gives = { λ v a. a ≡ v.items };
+impl<T> From<Vec<T>> for ItemList<T> {
+    ghost from_gives = { λ v l. l ≡ v.items };
 
-    fn from(items: Vec<i16>) -> Answers {
-        Answers { items }
-    }
-}
-
-/// A list of answers, each with its bound or without. A list that was read from a text has numbers
-/// from 1 to 32767; the type holds any.
-///
-/// [`From`] makes it of a `Vec`, and [`MarkedAnswers::into_vec`] returns that; neither takes memory.
-#[derive(Debug, Drop)]
-pub struct MarkedAnswers {
-    list: Vec<Marked>,
-}
-
-impl Model for MarkedAnswers {
-    ghost use Rattle.std.specs.Prelude.{List};
-    ghost use Rattle.ptb_answers.specs.declared.form.Marked.{Marked};
-
-    ghost Value = { List Marked };
-
-    ghost view = { λ a. a.list.items };
-}
-
-impl MarkedAnswers {
-    /// The answers with their bounds, in order.
-    pub fn as_slice(&self) -> &[Marked]
-        ensures { result.now ≡ self.now }
-    {
-        &self.list
-    }
-
-    /// The `Vec` that the list was made from.
-    pub fn into_vec(self) -> Vec<Marked>
-        ensures { result.items ≡ self }
-    {
-        self.list
-    }
-}
-
-impl From<Vec<Marked>> for MarkedAnswers {
-    ghost from_gives = { λ v a. a ≡ v.items };
-
-    fn from(list: Vec<Marked>) -> MarkedAnswers {
-        MarkedAnswers { list }
+    fn from(items: Vec<T>) -> ItemList<T> {
+        ItemList { items }
     }
 }
 

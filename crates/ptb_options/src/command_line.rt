@@ -6,8 +6,10 @@ ghost use Rattle.ptb_options.specs.CommandLine.{rule_of_listed, tool};
 ghost use Rattle.ptb_options.specs.Options.{HasBound, HasMemorySize, entries_of, options_of};
 ghost use Rattle.ptb_options.specs.Statuses.{refusal_status};
 
+use self::ArgKind::{Flag, List, Number, Operand};
 use crate::help;
 use clap::builder::ValueParser;
+use clap::builder::ValueParser::{Signed, Unsigned};
 use clap::error::ErrorKind;
 use clap::{Arg, ArgAction, ArgMatches, Command, Error};
 use std::alloc::{AllocError, Global};
@@ -58,105 +60,32 @@ pub fn refusal_status(kind: ErrorKind) -> u8
     }
 }
 
+// A table of arguments, a row each: name, kind, heading and help.
+macro_rules! listed {
+    ($($name:literal => $kind:expr, $heading:expr, $help:expr;)*) => {
+        &[$(ListedArg { name: $name, kind: $kind, heading: $heading, help: $help }),*]
+    };
+}
+
 // The arguments: the options, and the program, in the order in which help shows them.
-pub(crate) const ARGS: &[ListedArg] = &[
-    ListedArg {
-        name: "steps",
-        kind: ArgKind::Number(ValueParser::Signed(1, 1_000_000_000)),
-        heading: Some(help::RUN),
-        help: help::STEPS,
-    },
-    ListedArg {
-        name: "memory",
-        kind: ArgKind::Number(ValueParser::Signed(64, 32767)),
-        heading: Some(help::RUN),
-        help: help::MEMORY,
-    },
-    ListedArg {
-        name: "choose",
-        kind: ArgKind::Number(ValueParser::Signed(1, 32767)),
-        heading: Some(help::RUN),
-        help: help::CHOOSE,
-    },
-    ListedArg {
-        name: "answers",
-        kind: ArgKind::List,
-        heading: Some(help::RUN),
-        help: help::ANSWERS,
-    },
-    ListedArg {
-        name: "seed",
-        kind: ArgKind::Number(ValueParser::Unsigned(0, 4_294_967_295)),
-        heading: Some(help::RUN),
-        help: help::SEED,
-    },
-    ListedArg {
-        name: "all",
-        kind: ArgKind::Flag,
-        heading: Some(help::EXPLORE),
-        help: help::ALL,
-    },
-    ListedArg {
-        name: "under",
-        kind: ArgKind::List,
-        heading: Some(help::EXPLORE),
-        help: help::UNDER,
-    },
-    ListedArg {
-        name: "after",
-        kind: ArgKind::List,
-        heading: Some(help::EXPLORE),
-        help: help::ALL_AFTER,
-    },
-    ListedArg {
-        name: "first",
-        kind: ArgKind::Number(ValueParser::Unsigned(1, 1_000_000_000)),
-        heading: Some(help::EXPLORE),
-        help: help::FIRST,
-    },
-    ListedArg {
-        name: "shares",
-        kind: ArgKind::Number(ValueParser::Signed(1, 64)),
-        heading: Some(help::EXPLORE),
-        help: help::SHARES,
-    },
-    ListedArg {
-        name: "sample",
-        kind: ArgKind::Number(ValueParser::Unsigned(1, 1_000_000_000)),
-        heading: Some(help::EXPLORE),
-        help: help::SAMPLE,
-    },
-    ListedArg {
-        name: "form",
-        kind: ArgKind::Number(ValueParser::Signed(1, 2)),
-        heading: Some(help::EXPLORE),
-        help: help::FORM,
-    },
-    ListedArg {
-        name: "chances",
-        kind: ArgKind::Flag,
-        heading: Some(help::EXPLORE),
-        help: help::CHANCES,
-    },
-    ListedArg {
-        name: "list",
-        kind: ArgKind::Flag,
-        heading: Some(help::PRINT),
-        help: help::LIST,
-    },
-    ListedArg {
-        name: "check",
-        kind: ArgKind::Flag,
-        heading: Some(help::PRINT),
-        help: help::CHECK,
-    },
-    ListedArg {
-        name: "program",
-        kind: ArgKind::Operand,
-        heading: None,
-        help: help::PROGRAM,
-    },
-];
+pub(crate) const ARGS: &[ListedArg] = listed! {
+    "steps" => Number(Signed(1, 1_000_000_000)), Some(help::RUN), help::STEPS;
+    "memory" => Number(Signed(64, 32767)), Some(help::RUN), help::MEMORY;
+    "choose" => Number(Signed(1, 32767)), Some(help::RUN), help::CHOOSE;
+    "answers" => List, Some(help::RUN), help::ANSWERS;
+    "seed" => Number(Unsigned(0, 4_294_967_295)), Some(help::RUN), help::SEED;
+    "all" => Flag, Some(help::EXPLORE), help::ALL;
+    "under" => List, Some(help::EXPLORE), help::UNDER;
+    "after" => List, Some(help::EXPLORE), help::ALL_AFTER;
+    "first" => Number(Unsigned(1, 1_000_000_000)), Some(help::EXPLORE), help::FIRST;
+    "shares" => Number(Signed(1, 64)), Some(help::EXPLORE), help::SHARES;
+    "sample" => Number(Unsigned(1, 1_000_000_000)), Some(help::EXPLORE), help::SAMPLE;
+    "form" => Number(Signed(1, 2)), Some(help::EXPLORE), help::FORM;
+    "chances" => Flag, Some(help::EXPLORE), help::CHANCES;
+    "list" => Flag, Some(help::PRINT), help::LIST;
+    "check" => Flag, Some(help::PRINT), help::CHECK;
+    "program" => Operand, None, help::PROGRAM;
+};
 
 // An argument, with what clap needs to know of it.
 pub(crate) struct ListedArg {
@@ -187,10 +116,10 @@ impl ListedArg {
     {
         let arg = under_heading(Arg::new(alloc, self.name).help(self.help), self.heading);
         match self.kind {
-            ArgKind::Number(parser) => arg.long(self.name).value_name("N").value_parser(parser),
-            ArgKind::List => arg.long(self.name).value_name("LIST"),
-            ArgKind::Flag => arg.long(self.name).action(ArgAction::SetTrue),
-            ArgKind::Operand => arg.value_name("PROGRAM"),
+            Number(parser) => arg.long(self.name).value_name("N").value_parser(parser),
+            List => arg.long(self.name).value_name("LIST"),
+            Flag => arg.long(self.name).action(ArgAction::SetTrue),
+            Operand => arg.value_name("PROGRAM"),
         }
     }
 }

@@ -17,7 +17,7 @@ mod request;
 mod usage;
 mod wrong_numbers;
 
-pub use answers::{Answers, MarkedAnswers, parse_answers, parse_list};
+pub use answers::{Answers, ItemList, MarkedAnswers, parse_answers, parse_list};
 pub use command_line::{command, parse, refusal_status};
 pub use decision::{decide, misspelled_list};
 pub use mistakes::{Bounds, ItemFault, ListOption, MisspelledList, Mistake, list_mistake};

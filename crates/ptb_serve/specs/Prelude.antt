@@ -8,7 +8,6 @@ pub use Rattle.ptb_explore.specs.RunTree.{Front, Start, runs_left}
 pub use Rattle.ptb_machine.specs.Play.{play, status}
 pub use Rattle.ptb_machine.specs.Runs.{ending_alone}
 pub use Rattle.ptb_machine.specs.Streams.{reads_of, writes_of}
-pub use Rattle.ptb_options.specs.declared.request.Mode.TheVariants.{All}
 pub use Rattle.ptb_text.specs.Device.{HasFailed}
 pub use Rattle.ptb_text.specs.Lines.{input_lines}
 pub use Rattle.ptb_serve.specs.ListMismatches.{IsUnbegun}
@@ -17,4 +16,4 @@ pub use Rattle.ptb_serve.specs.Loaded.{line_of, IsServed, IsServedOn}
 pub use Rattle.ptb_serve.specs.Promises.{FailsLoudly, ReadsOnlyWhatIsAsked, Served}
 pub use Rattle.ptb_serve.specs.Replies.{answers_under, first_front, front_note, is_share}
 pub use Rattle.ptb_serve.specs.ReplyLaws.{ReplyLaws}
-pub use Rattle.ptb_serve.specs.ServedRequests.{NeedsInput, outcome_of}
+pub use Rattle.ptb_serve.specs.ServedRequests.{NeedsInput, mode_of, outcome_of}

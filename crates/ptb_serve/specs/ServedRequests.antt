@@ -17,6 +17,7 @@
 --     ReadsForRun mode ..               what a run takes of its input
 --     IsPlainRun mode                   the program is run once
 --     IsCheck mode                      its mistakes are listed
+--     mode_of listing                   the mode that asks for a listing
 --     NeedsInput mode                   the input may be read
 --     NeedsWholeInput mode              the input is read to its end
 --     IsInput mode known c              c is the input, where the mode needs it
@@ -42,6 +43,7 @@ use Rattle.ptb_explore.specs.Listing.{text}
 use Rattle.ptb_explore.specs.Report.{report}
 use Rattle.ptb_explore.specs.declared.fault.ExploreFault.{ExploreFault}
 use Rattle.ptb_explore.specs.declared.fault.ExploreFault.TheVariants as explores
+use Rattle.ptb_serve.specs.declared.all_runs.Listing.{Listing}
 use Rattle.ptb_serve.specs.declared.note.Note.{Note}
 use Rattle.ptb_serve.specs.declared.note.Note.TheVariants as notes
 use Rattle.ptb_options.specs.declared.request.Mode.{Mode}
@@ -53,6 +55,12 @@ use Rattle.ptb_machine.specs.PlainRuns.{ReadsFor, ShowsQuestion, lines_come, lin
 use Rattle.ptb_serve.specs.Replies.{Reply, lines_reply, seeded_lines_reply, program_of_text}
 use Rattle.ptb_serve.specs.Replies.{program_reply, runs_drawn, runs_due}
 use Rattle.ptb_machine.specs.SeededRuns.{seeded_answers}
+
+-- ---- modes
+
+-- the mode that asks for a listing
+abbrev pub mode_of : Listing → Mode
+mode_of listing = modes.All listing.under.now listing.after.now listing.first listing.form
 
 -- ---- outcomes
 

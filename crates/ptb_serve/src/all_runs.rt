@@ -2,7 +2,7 @@
 
 ghost use Rattle.std.specs.Prelude.{◌≡◌, ℕ, true, List, Option, None, IfErr, IfOk, IfSome, IsErrOf, OnOk};
 ghost use Rattle.ptb_serve.specs.Prelude.{Marked, HasFailed, input_lines, play, exploration, play_of, most_of};
-ghost use Rattle.ptb_serve.specs.Prelude.{WritesRuns, report, Front, Start, runs_left, All, IsUnbegun, ReadsInput};
+ghost use Rattle.ptb_serve.specs.Prelude.{WritesRuns, report, Front, Start, runs_left, mode_of, IsUnbegun, ReadsInput};
 ghost use Rattle.ptb_serve.specs.Prelude.{ServesProgram, TellsFailures, TellsMismatch, answers_under, first_front};
 ghost use Rattle.ptb_serve.specs.Prelude.{front_note, is_share};
 
@@ -14,12 +14,23 @@ use ptb_options::{MarkedAnswers, Request};
 use ptb_text::{Program, Read, Write};
 use std::alloc::Global;
 
-/// Writes the reports of a program's runs in this form: of those that begin with the answers `under`,
-/// or of all; of these the runs after the one with the answers `after`, if it is named; and no more
-/// than `first` of them. The status is 0.
+/// Which runs are listed, and how their reports are written.
+#[derive(Clone, Copy)]
+pub struct Listing<'a> {
+    /// The answers with which each of the runs begins; any run is listed where there is none.
+    pub under: &'a Option<MarkedAnswers>,
+    /// The run after which the listing begins, if it is named.
+    pub after: &'a Option<MarkedAnswers>,
+    /// The most runs that are listed; all of them where there is none.
+    pub first: Option<u64>,
+    /// How the reports have the answers.
+    pub form: Form,
+}
+
+/// Writes the reports of the runs of a listing. The status is 0.
 ///
-/// Nothing is written until the input was read to its end, and `under` and then `after` were
-/// checked.
+/// Nothing is written until the input was read to its end, and the listing's `under` and then its
+/// `after` were checked.
 ///
 /// # Errors
 ///
@@ -33,30 +44,25 @@ pub fn list_runs<R: Read, W: Write>(
     alloc: Global,
     request: &Request,
     program: &Program,
-    under: &Option<MarkedAnswers>,
-    after: &Option<MarkedAnswers>,
-    first: Option<u64>,
-    form: Form,
+    listing: Listing,
     input: &mut R,
     out: &mut W,
 ) -> Attempt
     requires memory { program.now.memory ≡ request.now.memory }
-    ensures serves { ServesProgram (All under.now after.now first form) request.now program.now
+    ensures serves { ServesProgram (mode_of listing.entry) request.now program.now
         (R.remaining input.old) (R.remaining input.new)
         (W.contents out.old) (W.contents out.new) result.served }
-    ensures reads { ReadsInput (All under.now after.now first form)
+    ensures reads { ReadsInput (mode_of listing.entry)
         (R.remaining input.old) (R.remaining input.new)
         (R.failures input.old) (R.failures input.new)
         (R.given input.old) (R.given input.new) result.served }
     ensures failures { TellsFailures (W.failures out.old) (W.failures out.new) result.served }
-    ensures mismatch { TellsMismatch (All under.now after.now first form) request.now program.now
+    ensures mismatch { TellsMismatch (mode_of listing.entry) request.now program.now
         (R.remaining input.old) result.served result.mismatch }
     ensures no_line { result.line ≡ None }
 {
     match read_lines(alloc, input) {
-        Ok(lines) => list_runs_on(
-            alloc, request, program, &lines, under, after, first, form, out,
-        ),
+        Ok(lines) => list_runs_on(alloc, request, program, &lines, listing, out),
         Err(fault) => Attempt::without_mismatch(Err(Note::from(fault))),
     }
 }
@@ -68,25 +74,22 @@ fn list_runs_on<W: Write>(
     request: &Request,
     program: &Program,
     lines: &[Line],
-    under: &Option<MarkedAnswers>,
-    after: &Option<MarkedAnswers>,
-    first: Option<u64>,
-    form: Form,
+    listing: Listing,
     out: &mut W,
 ) -> Attempt
     requires memory { program.now.memory ≡ request.now.memory }
     ensures serves { (known left : Option (List ℕ)) → IfSome known (λ c. lines.now ≡ input_lines c)
-        → ServesProgram (All under.now after.now first form) request.now program.now known left
+        → ServesProgram (mode_of listing.entry) request.now program.now known left
         (W.contents out.old) (W.contents out.new) result.served }
     ensures read { ¬ IsErrOf result.served Note.InputUnread }
     ensures failures { TellsFailures (W.failures out.old) (W.failures out.new) result.served }
     ensures mismatch { (known : Option (List ℕ)) → IfSome known (λ c. lines.now ≡ input_lines c)
-        → TellsMismatch (All under.now after.now first form) request.now program.now known
+        → TellsMismatch (mode_of listing.entry) request.now program.now known
         result.served result.mismatch }
     ensures no_line { result.line ≡ None }
 {
-    match explorer_from(alloc, program, lines, request.rules, under, after) {
-        Ok(explorer) => match write_reports(explorer, first, form, out) {
+    match explorer_from(alloc, request, program, lines, listing) {
+        Ok(explorer) => match write_reports(explorer, listing.first, listing.form, out) {
             Ok(_) => Attempt::without_mismatch(Ok(0)),
             Err(broken) => Attempt::without_mismatch(Err(Note::from(broken))),
         },
@@ -114,25 +117,24 @@ fn write_reports<W: Write>(
     write_all_runs(&mut explorer, first, form, out)
 }
 
-// An explorer of the runs that begin with the answers `under`, or of all: before the first of them, or
-// at the run with the answers `after`. The first list is looked at first.
+// An explorer of the runs of a listing: before the first of them, or at the run after which the listing
+// begins. The answers with which each run begins are looked at first.
 fn explorer_from<'a>(
     alloc: Global,
+    request: &Request,
     program: &'a Program,
     lines: &'a [Line],
-    rules: Rules,
-    under: &Option<MarkedAnswers>,
-    after: &Option<MarkedAnswers>,
+    listing: Listing,
 ) -> Result<Explorer<'a>, OpenFault>
-    ensures explorer { IfOk result (λ e. e ≡ exploration program.now lines.now rules
-        (answers_under under.now) (first_front after.now) e.kept e.played) }
-    ensures begun { OnOk result
-        (front_note (play program.now lines.now rules) under.now after.now ≡ None) }
-    ensures unbegun { IfErr result
-        (IsUnbegun (play program.now lines.now rules) under.now after.now) }
+    ensures explorer { IfOk result (λ e. e ≡ exploration program.now lines.now request.now.rules
+        (answers_under listing.entry.under.now) (first_front listing.entry.after.now) e.kept e.played) }
+    ensures begun { OnOk result (front_note (play program.now lines.now request.now.rules)
+        listing.entry.under.now listing.entry.after.now ≡ None) }
+    ensures unbegun { IfErr result (IsUnbegun (play program.now lines.now request.now.rules)
+        listing.entry.under.now listing.entry.after.now) }
 {
-    let explorer = first_explorer(alloc, program, lines, rules, under)?;
-    match after {
+    let explorer = first_explorer(alloc, program, lines, request.rules, listing.under)?;
+    match listing.after {
         None => Ok(explorer),
         Some(list) => explorer.go_to(list.as_slice()),
     }

@@ -35,10 +35,8 @@ pub fn list_table<R: Read, W: Write + Watch>(
         (reads_of R.remaining R.given R.failures input.old input.new)
         (writes_of W.contents W.failures out.old out.new) result }
 {
-    match read_lines(alloc, input) {
-        Ok(lines) => table_on(alloc, request, program, &lines, out),
-        Err(fault) => Err(Note::from(fault)),
-    }
+    let lines = read_lines(alloc, input)?;
+    table_on(alloc, request, program, &lines, out)
 }
 
 // Writes the table of a program's runs on the lines of an input that was read.

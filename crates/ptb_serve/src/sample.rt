@@ -35,10 +35,8 @@ pub fn list_sample<R: Read, W: Write>(
         (reads_of R.remaining R.given R.failures input.old input.new)
         (writes_of W.contents W.failures out.old out.new) result }
 {
-    match read_lines(alloc, input) {
-        Ok(lines) => sample_lines(alloc, request, program, &lines, sample, out),
-        Err(fault) => Err(Note::from(fault)),
-    }
+    let lines = read_lines(alloc, input)?;
+    sample_lines(alloc, request, program, &lines, sample, out)
 }
 
 // Writes the reports of the runs that a seed draws on the lines of an input that was read.

@@ -7,7 +7,7 @@ ghost use Rattle.ptb_serve.specs.Prelude.{status, ending_alone, reads_of, writes
 ghost use Rattle.ptb_serve.specs.Prelude.{ServesProgram, TellsFailures, TellsLine, TellsMismatch, line_of, FailsLoudly};
 ghost use Rattle.ptb_serve.specs.Prelude.{ReadsOnlyWhatIsAsked, Served, ReplyLaws, NeedsInput, outcome_of};
 
-use crate::all_runs::list_runs;
+use crate::all_runs::{Listing, list_runs};
 use crate::attempt::Attempt;
 use crate::chances::list_table;
 use crate::laws::reply_laws;
@@ -151,9 +151,15 @@ fn serve_program<R: Read, W: Write + Watch>(
             after,
             first,
             form,
-        } => list_runs(
-            alloc, request, program, under, after, *first, *form, input, out,
-        ),
+        } => {
+            let listing = Listing {
+                under,
+                after,
+                first: *first,
+                form: *form,
+            };
+            list_runs(alloc, request, program, listing, input, out)
+        }
         Mode::Shares { answers, form } => {
             let served = list_shares(alloc, request, program, *answers, *form, input, out);
             Attempt::without_mismatch(served)

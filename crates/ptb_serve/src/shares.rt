@@ -37,10 +37,8 @@ pub fn list_shares<R: Read, W: Write>(
         (reads_of R.remaining R.given R.failures input.old input.new)
         (writes_of W.contents W.failures out.old out.new) result }
 {
-    match read_lines(alloc, input) {
-        Ok(lines) => share_lines(alloc, request, program, &lines, answers, form, out),
-        Err(fault) => Err(Note::from(fault)),
-    }
+    let lines = read_lines(alloc, input)?;
+    share_lines(alloc, request, program, &lines, answers, form, out)
 }
 
 // Writes the lists that split a program's runs on the lines of an input that was read.

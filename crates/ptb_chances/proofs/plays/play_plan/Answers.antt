@@ -4,9 +4,9 @@ use Rattle.std.proofs.Common.{Err, Some, None, FitsSigned, w16, to_z-of_z}
 use Rattle.ptb_answers.specs.Outcome.{is_open}
 use Rattle.ptb_machine.specs.State.{State}
 use Rattle.ptb_explore.specs.PlannedPlays.{run_from}
-use Rattle.ptb_chances.specs.Planned.{choices_of}
+use Rattle.ptb_chances.specs.Planned.{PlanAnswers, choices_of}
 use Rattle.ptb_chances.specs.Standing.{Came}
-use Rattle.ptb_chances.proofs.PlaySteps.{advanced, came_by, none_follow, never_out, never_unread}
+use Rattle.ptb_chances.proofs.PlaySteps.{advanced, came_by, came_first, none_follow, never_out, never_unread}
 use Rattle.ptb_chances.proofs.PlaySteps.{never_unwritten, plays_by, step_came, step_plays}
 use Rattle.ptb_chances.proofs.PlaySteps.{step_plan, taken_within}
 use Rattle.ptb_chances.proofs.Picked.{whole}
@@ -24,6 +24,19 @@ advances c S came =
     advanced c.run_laws.ensures c.commands.player c.args.rules c.advance.new.self turns.0 S c.commands.machine
     c.advance.new.machine (choices_of c.commands.plan).taken c.commands.console.screen _ c.advance.ensures.program
     came turns.1.1
+
+pub commands-init : goal.commands-init
+commands-init c =
+    let given : c.new-plan.result.given ≡ 0 = ap (λ (l : PlanAnswers). l.given) c.new-plan.ensures in
+    record {
+      program = refl;
+      answers = ap (λ (l : PlanAnswers). l.answers) c.new-plan.ensures;
+      same_lines = refl;
+      within = c.requires.within;
+      unspent = c.requires.unspent;
+      steps = omega arith;
+      came = λ S h. came_first _ _ S _ _ _ _ (ap (λ n. take n c.new-plan.result.answers) given) h;
+    }
 
 pub commands-preserved : goal.commands-preserved
 commands-preserved c =
@@ -71,30 +84,33 @@ ended-requires c = λ bad.
     (is ∙ ap (λ e. Ok (Some e)) bad)
 
 pub returns-in-Ok-Some-clause-plays : goal.returns-in-Ok-Some-clause-plays
-returns-in-Ok-Some-clause-plays c = λ S h.
-    let l = c.commands in
-    let i = l.invariant in
-    let is : c.step.result ≡ Ok (Some c.in-Ok-Some.ending) =
-    c.in-Ok-Some.is ∙ ap Ok (c.in-Ok-Some.field-0-is ∙ ap Some c.in-Ok-Some.ending-is) in
-    let turn = c.step.ensures.step.turn in
-    let v = advances (goal.at.returns-in-Ok-Some-clause-plays c).After-advance S (i.came S h) in
-    let plan = step_plan c.run_laws.ensures c.advance.new.self c.args.rules S _ _
-    (choices_of l.plan) c.step.new.chooser _ _ turn.given _ _ _ _ _ v turn.gives.first
-    (none_follow c.step.new.source) turn.steps (Some c.in-Ok-Some.ending) is in
-    let o = c.requires.opens in
-    let u = advances (goal.at.returns-in-Ok-Some-clause-plays c).After-advance o.0 (i.came o.0 o.1) in
-    let opens : is_open (run_from c.advance.new.self c.args.rules o.0 c.step.new.chooser.answers) ≡ true =
-    rw (c.advance.ensures.program ∙ i.program, plan ∙ i.answers) o.2 in
-    let fits : FitsSigned w16 c.step.new.chooser.refused_bound = search rules in
-    let x = step_plays c.run_laws.ensures c.advance.new.self c.args.rules S _ _ (choices_of l.plan) c.step.new.chooser _
-    _ turn.given _ _ _ _ _ v turn.gives.first (none_follow c.step.new.source) turn.steps
-    c.in-Ok-Some.ending c.args.player.now c.args.plan.now.answers _ (c.advance.ensures.program ∙ i.program)
-    (plan ∙ i.answers)
-    (λ bad. never_out c.run_laws.ensures c.advance.new.self c.args.rules o.0 _ _
-    (choices_of l.plan) c.step.new.chooser _ _ turn.given _ _ _ _ _ u turn.gives.first
-    (none_follow c.step.new.source) turn.steps opens (is ∙ ap (λ e. Ok (Some e)) bad))
-    is (rw (to_z-of_z fits) at (rw c.refused_bound.ensures at c.ended.ensures)) in
-    plays_by _ _ _ _ _ _ _ _ _ _ (ap (drop c.step.new.source.taken) (turn.gives.same_lines ∙ i.same_lines)) x
+returns-in-Ok-Some-clause-plays c = (
+  c.step.new.chooser.given,
+  λ S h.
+      let l = c.commands in
+      let i = l.invariant in
+      let is : c.step.result ≡ Ok (Some c.in-Ok-Some.ending) =
+      c.in-Ok-Some.is ∙ ap Ok (c.in-Ok-Some.field-0-is ∙ ap Some c.in-Ok-Some.ending-is) in
+      let turn = c.step.ensures.step.turn in
+      let v = advances (goal.at.returns-in-Ok-Some-clause-plays c).After-advance S (i.came S h) in
+      let plan = step_plan c.run_laws.ensures c.advance.new.self c.args.rules S _ _
+      (choices_of l.plan) c.step.new.chooser _ _ turn.given _ _ _ _ _ v turn.gives.first
+      (none_follow c.step.new.source) turn.steps (Some c.in-Ok-Some.ending) is in
+      let o = c.requires.opens in
+      let u = advances (goal.at.returns-in-Ok-Some-clause-plays c).After-advance o.0 (i.came o.0 o.1) in
+      let opens : is_open (run_from c.advance.new.self c.args.rules o.0 c.step.new.chooser.answers) ≡ true =
+      rw (c.advance.ensures.program ∙ i.program, plan ∙ i.answers) o.2 in
+      let fits : FitsSigned w16 c.step.new.chooser.refused_bound = search rules in
+      let x = step_plays c.run_laws.ensures c.advance.new.self c.args.rules S _ _ (choices_of l.plan) c.step.new.chooser _
+      _ turn.given _ _ _ _ _ v turn.gives.first (none_follow c.step.new.source) turn.steps
+      c.in-Ok-Some.ending c.args.player.now c.args.answers.now _ (c.advance.ensures.program ∙ i.program)
+      (plan ∙ i.answers)
+      (λ bad. never_out c.run_laws.ensures c.advance.new.self c.args.rules o.0 _ _
+      (choices_of l.plan) c.step.new.chooser _ _ turn.given _ _ _ _ _ u turn.gives.first
+      (none_follow c.step.new.source) turn.steps opens (is ∙ ap (λ e. Ok (Some e)) bad))
+      is (rw (to_z-of_z fits) at (rw c.refused_bound.ensures at c.ended.ensures)) in
+      plays_by _ _ _ _ _ _ _ _ _ _ (ap (drop c.step.new.source.taken) (turn.gives.same_lines ∙ i.same_lines)) x,
+)
 
 pub returns-in-Ok-Some-clause-within : goal.returns-in-Ok-Some-clause-within
 returns-in-Ok-Some-clause-within c =
@@ -111,21 +127,24 @@ returns-then-is_used_up-clause-within c =
     (rw i.same_lines i.within))
 
 pub returns-then-is_used_up-clause-plays : goal.returns-then-is_used_up-clause-plays
-returns-then-is_used_up-clause-plays c = λ S h.
-    let l = c.commands in
-    let i = l.invariant in
-    let is : c.step.result ≡ Ok None = c.in-Ok-None.is ∙ ap Ok c.in-Ok-None.field-0-is in
-    let turn = c.step.ensures.step.turn in
-    let v = advances (goal.at.returns-then-is_used_up-clause-plays c).After-advance S (i.came S h) in
-    let plan = step_plan c.run_laws.ensures c.advance.new.self c.args.rules S _ _ (choices_of l.plan) c.step.new.chooser
-    _ _ turn.given _ _ _ _ _ v turn.gives.first (none_follow c.step.new.source) turn.steps None is in
-    let given : c.step.new.chooser.given ≡ length c.step.new.chooser.answers = search rules in
-    came_by c.advance.new.self c.args.player.now c.args.rules S _ _ _ _ _ _ (c.advance.ensures.program ∙ i.program)
-    (ap (λ n. take n c.step.new.chooser.answers) given ∙ whole c.step.new.chooser.answers ∙ plan ∙ i.answers)
-    (ap (drop c.step.new.source.taken) (turn.gives.same_lines ∙ i.same_lines))
-    (step_came c.run_laws.ensures c.advance.new.self c.args.rules S _ _ (choices_of l.plan)
-    (choices_of c.step.new.chooser) _ _ turn.given _ _ _ _ _ _ is v turn.gives.first
-    (none_follow c.step.new.source) turn.steps)
+returns-then-is_used_up-clause-plays c = (
+  c.step.new.chooser.given,
+  λ S h.
+      let l = c.commands in
+      let i = l.invariant in
+      let is : c.step.result ≡ Ok None = c.in-Ok-None.is ∙ ap Ok c.in-Ok-None.field-0-is in
+      let turn = c.step.ensures.step.turn in
+      let v = advances (goal.at.returns-then-is_used_up-clause-plays c).After-advance S (i.came S h) in
+      let plan = step_plan c.run_laws.ensures c.advance.new.self c.args.rules S _ _ (choices_of l.plan) c.step.new.chooser
+      _ _ turn.given _ _ _ _ _ v turn.gives.first (none_follow c.step.new.source) turn.steps None is in
+      let given : c.step.new.chooser.given ≡ length c.step.new.chooser.answers = search rules in
+      came_by c.advance.new.self c.args.player.now c.args.rules S _ _ _ _ _ _ (c.advance.ensures.program ∙ i.program)
+      (ap (λ n. take n c.step.new.chooser.answers) given ∙ whole c.step.new.chooser.answers ∙ plan ∙ i.answers)
+      (ap (drop c.step.new.source.taken) (turn.gives.same_lines ∙ i.same_lines))
+      (step_came c.run_laws.ensures c.advance.new.self c.args.rules S _ _ (choices_of l.plan)
+      (choices_of c.step.new.chooser) _ _ turn.given _ _ _ _ _ _ is v turn.gives.first
+      (none_follow c.step.new.source) turn.steps),
+)
 
 pub unreachable-requires : goal.unreachable-requires
 unreachable-requires c =

@@ -8,7 +8,7 @@ use Rattle.ptb_chances.proofs.plays.play_plan.Given as goal
 abbrev pub invariant-commands : goal.invariant-commands
 invariant-commands l = record {
   program : l.player ≡ l.fn.player;
-  answers : l.plan.answers ≡ l.fn.plan.answers;
+  answers : l.plan.answers ≡ l.fn.answers;
   same_lines : l.console.source.lines ≡ l.fn.console.source.lines;
   within : l.console.source.taken ≤ length l.fn.console.source.lines;
   unspent : l.machine.spent ≡ false;

@@ -1,12 +1,13 @@
 -- This file answers that a run is played step by step with the answers that are drawn, and how it ends.
-use Rattle.std.proofs.Common.{◌≡◌, ◌∙◌, [], drop, refl, ap, true, false, Ok, Err, Some, None}
+use Rattle.std.proofs.Common.{◌≡◌, ◌∙◌, [], drop, refl, ap, sym, false, Ok, Some, None}
+use Rattle.std.proofs.lemmas.Bool.{false≢true}
 use Rattle.ptb_answers.specs.Seeds.{RefusedForMemory, drawn_from, seeded_choices}
 use Rattle.ptb_machine.specs.State.{first_state}
 use Rattle.ptb_devices.specs.Sources.{LineList}
 use Rattle.ptb_machine.specs.Play.{play}
 use Rattle.ptb_explore.specs.PlannedPlays.{IsRunPrefix}
 use Rattle.ptb_explore.proofs.RunPrefix.{advanced, step_goes, run_prefix_at_first, none_follow}
-use Rattle.ptb_explore.proofs.RunPrefix.{never_unread, never_unwritten}
+use Rattle.ptb_explore.proofs.RunPrefix.{only_memory}
 use Rattle.ptb_explore.proofs.DrawnRuns.{drawn_ends, plays_drawn}
 use Rattle.ptb_explore.proofs.sampler.play_drawn.Goals as goal
 use Rattle.ptb_explore.proofs.sampler.play_drawn.Goals.{After-advance}
@@ -76,25 +77,11 @@ returns-in-Ok-Some-clause-drawn c =
     rw (← (c.advance.ensures.program ∙ i.program)) (plays_drawn (play c.advance.new.self input c.args.rules)
     c.args.chooser.now c.step.new.chooser _ (x.0 ∙ i.plan) x.1)
 
-pub unreachable-requires : goal.unreachable-requires
-unreachable-requires c =
+pub memory_refusal-requires : goal.memory_refusal-requires
+memory_refusal-requires c =
     let turn = c.step.ensures.step.turn in
-    let u = advances (goal.at.unreachable-requires c).After-advance in
-    never_unread c.run_laws.ensures c.advance.new.self c.args.lines.now c.args.rules RefusedForMemory
-    _ _ _ _ _ _ turn.given _ _ _ _ _ u turn.gives.first (none_follow c.step.new.source) turn.steps
-    (c.in-Err-Read.is ∙ ap Err c.in-Err-Read.field-0-is)
-
-pub unreachable-requires-in-Err-Write : goal.unreachable-requires-in-Err-Write
-unreachable-requires-in-Err-Write c =
-    let turn = c.step.ensures.step.turn in
-    let u = advances (goal.at.unreachable-requires-in-Err-Write c).After-advance in
-    never_unwritten c.run_laws.ensures c.advance.new.self c.args.lines.now c.args.rules RefusedForMemory
-    _ _ _ _ _ _ turn.given _ _ _ _ _ u turn.gives.first (none_follow c.step.new.source) turn.steps
-    (c.in-Err-Write.is ∙ ap Err c.in-Err-Write.field-0-is)
-
-pub unreachable-requires-in-Err-Spent : goal.unreachable-requires-in-Err-Spent
-unreachable-requires-in-Err-Spent c =
-    let over : c.advance.new.machine.spent ≡ true =
-    c.step.ensures.step.spent.0 (c.in-Err-Spent.is ∙ ap Err c.in-Err-Spent.field-0-is) in
+    let u = advances (goal.at.memory_refusal-requires c).After-advance in
     let going : c.advance.new.machine.spent ≡ false = c.advance.ensures.spent ∙ c.steps.invariant.unspent in
-    cc
+    only_memory c.run_laws.ensures c.advance.new.self c.args.lines.now c.args.rules RefusedForMemory
+    _ _ _ _ _ _ turn.given _ _ _ _ _ u turn.gives.first (none_follow c.step.new.source) turn.steps
+    (λ over. false≢true (sym going ∙ c.step.ensures.step.spent.0 over)) c.in-Err.fault c.in-Err.is

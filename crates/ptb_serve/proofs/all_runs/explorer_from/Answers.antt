@@ -14,7 +14,7 @@ use Rattle.ptb_serve.proofs.all_runs.explorer_from.Goals as goal
 pub returns-in_err-explorer-clause-unbegun : goal.returns-in_err-explorer-clause-unbegun
 returns-in_err-explorer-clause-unbegun c =
     let p = err_from_is_err_and c.from_residual.result c.from_residual.ensures.1 in
-    rw (p.1, p.2) (c.in_err-explorer.ensures.unbegun c.args.after.now)
+    rw (p.1, p.2) (c.in_err-explorer.ensures.unbegun c.args.listing.after.now)
 
 pub returns-in-None-clause-begun : goal.returns-in-None-clause-begun
 returns-in-None-clause-begun c = rw c.in-None.is (ap (λ t. note_of t true) c.in_ok-explorer.ensures.begins)
@@ -23,16 +23,16 @@ pub returns-in-Some-clause-explorer : goal.returns-in-Some-clause-explorer
 returns-in-Some-clause-explorer c =
     let front = At (answers_of c.as_slice.result.now) in
     rw c.in-Some.is
-    (subst (λ l. IfOk c.go_to.result (λ e. e ≡ exploration c.args.program.now c.args.lines.now c.args.rules
-    (answers_under c.args.under.now) (At (answers_of l)) e.kept e.played)) c.as_slice.ensures
+    (subst (λ l. IfOk c.go_to.result (λ e. e ≡ exploration c.args.program.now c.args.lines.now c.args.request.now.rules
+    (answers_under c.args.listing.under.now) (At (answers_of l)) e.kept e.played)) c.as_slice.ensures
     (IfOk-weaker c.go_to.result _ _
     (λ e there. there ∙ ap (λ (x : Exploration). record x { front = front; kept = e.kept; played = e.played })
     c.in_ok-explorer.ensures.explorer) c.go_to.ensures.there))
 
 pub returns-in-Some-clause-begun : goal.returns-in-Some-clause-begun
 returns-in-Some-clause-begun c =
-    let game = play c.args.program.now c.args.lines.now c.args.rules in
-    let under = c.args.under.now in
+    let game = play c.args.program.now c.args.lines.now c.args.request.now.rules in
+    let under = c.args.listing.under.now in
     rw c.in-Some.is
     (subst (λ l. OnOk c.go_to.result (front_note game under (Some l) ≡ None)) c.as_slice.ensures
     (on_ok_both c.go_to.result (λ r b. ap₂ note_of c.in_ok-explorer.ensures.begins
@@ -42,8 +42,8 @@ returns-in-Some-clause-begun c =
 
 pub returns-in-Some-clause-unbegun : goal.returns-in-Some-clause-unbegun
 returns-in-Some-clause-unbegun c =
-    let game = play c.args.program.now c.args.lines.now c.args.rules in
-    let under = c.args.under.now in
+    let game = play c.args.program.now c.args.lines.now c.args.request.now.rules in
+    let under = c.args.listing.under.now in
     let why = rw c.in_ok-explorer.ensures.explorer at c.go_to.ensures.mismatch in
     rw c.in-Some.is
     (subst (λ l. IfErr c.go_to.result (IsUnbegun game under (Some l))) c.as_slice.ensures

@@ -13,10 +13,11 @@ use Rattle.ptb_serve.proofs.all_runs.list_runs_on.Goals as goal
 -- all reports are written
 pub returns-in-Ok-write_reports : goal.returns-in-Ok-write_reports
 returns-in-Ok-write_reports g c =
+    let l = c.args.listing in
     let writes = c.in-Ok-write_reports.ensures in
     let listed =
-    listing_written c.args.request.now c.args.program.now c.requires.memory c.args.under.now c.args.after.now
-    c.args.first c.args.form c.args.lines.now
+    listing_written c.args.request.now c.args.program.now c.requires.memory l.under.now l.after.now
+    l.first l.form c.args.lines.now
     (writes_of g.W.Write.contents g.W.Write.failures c.args.out.now c.write_reports.new.out)
     c.in-Ok.explorer writes.writes.0 c.in-Ok.ensures.explorer c.in-Ok.ensures.begun
     _ writes.writes.1 (writes.unfailed (λ n. no_fault _ _))
@@ -32,10 +33,11 @@ returns-in-Ok-write_reports g c =
 -- some are
 pub returns-in-Err-write_reports : goal.returns-in-Err-write_reports
 returns-in-Err-write_reports g c =
+    let l = c.args.listing in
     let writes = c.in-Err-write_reports.ensures in
     let listed =
-    listing_broken c.args.request.now c.args.program.now c.requires.memory c.args.under.now c.args.after.now
-    c.args.first c.args.form c.args.lines.now
+    listing_broken c.args.request.now c.args.program.now c.requires.memory l.under.now l.after.now
+    l.first l.form c.args.lines.now
     (writes_of g.W.Write.contents g.W.Write.failures c.args.out.now c.write_reports.new.out)
     c.in-Ok.explorer writes.writes.0 c.in-Ok.ensures.explorer c.in-Ok.ensures.begun
     (Err c.from.result) c.in-Err-write_reports.broken c.from.ensures writes.writes.1 (writes.failed, writes.unfailed)
@@ -54,9 +56,10 @@ returns-in-Err-write_reports g c =
 -- the listing is not begun
 pub returns-in-Err : goal.returns-in-Err
 returns-in-Err g c =
+    let l = c.args.listing in
     let listed =
-    listing_unbegun c.args.request.now c.args.program.now c.requires.memory c.args.under.now c.args.after.now
-    c.args.first c.args.form c.args.lines.now
+    listing_unbegun c.args.request.now c.args.program.now c.requires.memory l.under.now l.after.now
+    l.first l.form c.args.lines.now
     (g.W.Write.contents c.args.out.now) (g.W.Write.failures c.args.out.now) c.in-Err.why c.in-Err.ensures.unbegun
     in
     rw c.unbegun.ensures (record {
@@ -64,6 +67,6 @@ returns-in-Err g c =
       read = listed.read;
       failures = listed.failures;
       mismatch = λ known lines. unbegun_told c.args.request.now c.args.program.now known c.args.lines.now lines
-          c.args.under.now c.args.after.now c.args.first c.args.form c.in-Err.why c.in-Err.ensures.unbegun;
+          l.under.now l.after.now l.first l.form c.in-Err.why c.in-Err.ensures.unbegun;
       no_line = unbegun_line c.in-Err.why;
     })

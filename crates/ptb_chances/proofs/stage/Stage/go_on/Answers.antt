@@ -49,13 +49,12 @@ has_advanced c =
 pub play_plan-requires-clause-opens : goal.play_plan-requires-clause-opens
 play_plan-requires-clause-opens c =
     let o = c.requires.opens in
-    let none : c.new-chooser.result.answers ≡ [] = search rules in
     let a = has_advanced (goal.at.play_plan-requires-clause-opens c).After-advance in
     let came = c.commands.invariant.came o.0 o.1 in
     let x = gone c.run_laws.ensures _ _ _ _ o.0 _ _ _ _ _ _ a came in (
       x.state,
       x.stands,
-      gone_opens c.run_laws.ensures _ _ _ _ o.0 _ _ _ _ _ _ a came c.new-chooser.result.answers none o.2,
+      gone_opens c.run_laws.ensures _ _ _ _ o.0 _ _ _ _ _ _ a came [] refl o.2,
     )
 
 pub commands-preserved : goal.commands-preserved
@@ -64,26 +63,24 @@ commands-preserved c =
     let e = c.advance.ensures in
     let a = has_advanced (goal.at.commands-preserved c).After-advance in
     let same_lines = ap (λ (k : Console). k.source.lines) e.console ∙ i.same_lines in
-    let none : c.new-chooser.result.answers ≡ [] = search rules in
-    let plays = rw c.in-Goes.is at c.in_ok-played.ensures.plays in
-    let goes = c.in_ok-played.ensures.goes c.in-Goes.is in
+    let plays = (rw c.in-Goes.is at c.in_ok-ending.ensures.plays).1 in
+    let goes = c.in_ok-ending.ensures.goes c.in-Goes.is in
     record {
       player = c.play_plan.ensures.program ∙ a.program;
       rules = a.by;
       same_lines = c.play_plan.ensures.same_lines ∙ same_lines;
-      within = rw same_lines at c.in_ok-played.ensures.within;
+      within = rw same_lines at c.in_ok-ending.ensures.within;
       unspent = goes.0;
       steps = omega (arith, rw a.by at goes.1, e.turns.1.0, i.steps);
-      came = λ S h. gone_on c.run_laws.ensures _ _ _ _ S _ _ _ _ _ _ a (i.came S h) c.new-chooser.result.answers
-          _ _ _ _ none (ap (drop c.play_plan.new.console.source.taken) same_lines) plays;
+      came = λ S h. gone_on c.run_laws.ensures _ _ _ _ S _ _ _ _ _ _ a (i.came S h) []
+          _ _ _ _ refl (ap (drop c.play_plan.new.console.source.taken) same_lines) plays;
     }
 
 pub returns-in-Over-clause-goes : goal.returns-in-Over-clause-goes
 returns-in-Over-clause-goes c = λ S h.
-    let none : c.new-chooser.result.answers ≡ [] = search rules in
     let a = has_advanced (goal.at.returns-in-Over-clause-goes c).After-advance in
-    gone_over c.run_laws.ensures _ _ _ _ S _ _ _ _ _ _ a (c.commands.invariant.came S h) c.new-chooser.result.answers
-    _ _ _ none (rw c.in-Over.is at c.in_ok-played.ensures.plays)
+    gone_over c.run_laws.ensures _ _ _ _ S _ _ _ _ _ _ a (c.commands.invariant.came S h) []
+    _ _ _ refl (rw c.in-Over.is at c.in_ok-ending.ensures.plays).1
 
 pub returns-in-Asks-clause-goes : goal.returns-in-Asks-clause-goes
 returns-in-Asks-clause-goes c = λ S h.

@@ -1,23 +1,23 @@
 -- This file answers that a plan is played from its place.
 use Rattle.std.proofs.Common.{◌≡◌, rules, drop, refl}
+use Rattle.std.proofs.lemmas.Result.{IfOk-weaker}
 use Rattle.ptb_chances.proofs.PlaySteps.{stands_by}
 use Rattle.ptb_chances.proofs.stage.Stage.start.Goals as goal
 
 pub returns-clause-plays : goal.returns-clause-plays
-returns-clause-plays c = (
-  c.play_plan.new.plan.given,
-  λ S h.
-      let machine : c.args.place.now.machine ≡ c.restore.new.self = search rules in
-      let taken : c.go.new.self.taken ≡ c.args.place.now.taken = search rules in
-      let lines : c.go.new.self.lines ≡ c.args.self.now.console.source.lines = search rules in
-      let shown : c.args.place.now.shown.items ≡ c.from_vec.result = search rules in
-      let left : drop c.args.place.now.taken c.args.self.now.console.source.lines
-      ≡ drop c.go.new.self.taken c.go.new.self.lines = rw (taken, lines) refl in
-      let plan : c.new-chooser.result.answers ≡ c.args.plan.now.answers.items = search rules in
-      let plays = c.in_ok-played.ensures.plays S (stands_by _ _ S _ _ _ _ _ _ machine left shown h) in
-      rw (← plan, ← lines) plays,
-)
+returns-clause-plays c =
+    let machine : c.args.place.now.machine ≡ c.restore.new.self = search rules in
+    let taken : c.go.new.self.taken ≡ c.args.place.now.taken = search rules in
+    let lines : c.go.new.self.lines ≡ c.args.self.now.console.source.lines = search rules in
+    let shown : c.args.place.now.shown.items ≡ c.from_vec.result = search rules in
+    let left : drop c.args.place.now.taken c.args.self.now.console.source.lines
+    ≡ drop c.go.new.self.taken c.go.new.self.lines = rw (taken, lines) refl in
+    IfOk-weaker c.play_plan.result _ _
+    (λ played plays. (
+      plays.0,
+      λ S h. rw (← c.deref-2.ensures.value, ← lines) (plays.1 S (stands_by _ _ S _ _ _ _ _ _ machine left shown h)),
+    )) c.play_plan.ensures.plays
 
 pub returns-clause-within : goal.returns-clause-within
 returns-clause-within c = let lines : c.go.new.self.lines ≡ c.args.self.now.console.source.lines = search rules in
-    rw (← lines) c.in_ok-played.ensures.within
+    rw (← lines) c.play_plan.ensures.within

@@ -15,9 +15,10 @@ invariant_of-self c = record {
 
 pub returns-then-listed : goal.returns-then-listed
 returns-then-listed c added =
-    let items = asked_items c.args.form c.args.asked.now in
-    let some : 0 < length c.args.asked.now = grind (arith, c.if-is_empty.ensures) in
+    let r = c.args.report.now in
+    let items = asked_items r.form r.asked.now in
+    let some : 0 < length r.asked.now = grind (arith, c.if-is_empty.ensures) in
     c.add_ending.ensures.added added
-    ∙ ap (λ z. z ++ report_ending c.args.word.now c.args.steps c.args.transcript.now) (c.if-listed.ensures.all refl)
-    ∙ report_from_begun items c.args.word.now c.args.steps c.args.transcript.now
-    (omega (arith, some, length-asked_items c.args.form c.args.asked.now))
+    ∙ ap (λ z. z ++ report_ending r.word.now r.steps r.transcript.now) (c.if-listed.ensures.all refl)
+    ∙ report_from_begun items r.word.now r.steps r.transcript.now
+    (omega (arith, some, length-asked_items r.form r.asked.now))

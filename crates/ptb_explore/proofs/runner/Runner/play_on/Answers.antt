@@ -1,6 +1,7 @@
 -- This file answers that a run is played step by step, how it ends, and that the copies that are kept are of it.
 use Rattle.std.proofs.Common.{◌≡◌, ◌++◌, ◌≤◌, drop, length, length-append, refl, sym, ap, subst}
-use Rattle.std.proofs.Common.{◌∙◌, arith, true, false, Ok, Err, Some, None}
+use Rattle.std.proofs.Common.{◌∙◌, arith, false, Ok, Some, None}
+use Rattle.std.proofs.lemmas.Bool.{false≢true}
 use Rattle.std.proofs.lemmas.List.{length-take-le}
 use Rattle.ptb_machine.specs.Play.{play}
 use Rattle.ptb_answers.specs.Outcome.{Answers}
@@ -12,7 +13,7 @@ use Rattle.ptb_explore.specs.declared.recorder.Recorder.{Recorder}
 use Rattle.ptb_explore.proofs.Limits.{taken_by}
 use Rattle.ptb_explore.proofs.Keep.{kept_longer, kept_more, kept_same}
 use Rattle.ptb_explore.proofs.RunPrefix.{advanced, step_goes, step_ends, step_extends, prefix_to}
-use Rattle.ptb_explore.proofs.RunPrefix.{taken_within, none_follow, never_unread, never_unwritten}
+use Rattle.ptb_explore.proofs.RunPrefix.{taken_within, none_follow, only_memory}
 use Rattle.ptb_explore.proofs.Runners.{stepped}
 use Rattle.ptb_explore.proofs.runner.Runner.play_on.Goals as goal
 use Rattle.ptb_explore.proofs.runner.Runner.play_on.Goals.{After-advance, In-Ok-Some}
@@ -111,8 +112,8 @@ returns-in-Ok-Some-clause-same c =
     stepped c.loop-ending.self c.args.self.now c.step.new.self _ c.step.new.chooser _ c.loop-ending.self.copies
     (c.step.ensures.program ∙ c.advance.ensures.program) c.loop-ending.invariant.same
 
-pub returns-in-Err-Memory-clause-same : goal.returns-in-Err-Memory-clause-same
-returns-in-Err-Memory-clause-same c =
+pub returns-in-Err-clause-same : goal.returns-in-Err-clause-same
+returns-in-Err-clause-same c =
     stepped c.loop-ending.self c.args.self.now c.step.new.self _ c.step.new.chooser _ c.loop-ending.self.copies
     (c.step.ensures.program ∙ c.advance.ensures.program) c.loop-ending.invariant.same
 
@@ -144,26 +145,12 @@ returns-in-Ok-Some-clause-copies c =
     kept_same l.self.player c.args.self.now.player input input c.args.self.now.rules (old.taken ++ more.answers)
     new.taken (l.screen ++ more.bytes) c.step.new.screen _ _ (sym i.program) refl more.taken more.shown refl all
 
-pub unreachable-requires : goal.unreachable-requires
-unreachable-requires c =
+pub memory_refusal-requires : goal.memory_refusal-requires
+memory_refusal-requires c =
     let turn = c.step.ensures.step.turn in
-    let u = advances (goal.at.unreachable-requires c).After-advance in
-    never_unread c.run_laws.ensures c.advance.new.self c.args.source.now.lines c.args.self.now.rules (RefusedByPlan
-    (choices_of c.step.new.chooser) c.step.new.chooser.refused_bound) _ _ _ _ _ _ turn.given _ _ _ _ _ u
-    turn.gives.first (none_follow c.step.new.source) turn.steps (c.in-Err-Read.is ∙ ap Err c.in-Err-Read.field-0-is)
-
-pub unreachable-requires-in-Err-Write : goal.unreachable-requires-in-Err-Write
-unreachable-requires-in-Err-Write c =
-    let turn = c.step.ensures.step.turn in
-    let u = advances (goal.at.unreachable-requires-in-Err-Write c).After-advance in
-    never_unwritten c.run_laws.ensures c.advance.new.self c.args.source.now.lines c.args.self.now.rules
-    (RefusedByPlan (choices_of c.step.new.chooser) c.step.new.chooser.refused_bound) _ _ _
-    _ _ _ turn.given _ _ _ _ _ u turn.gives.first (none_follow c.step.new.source) turn.steps
-    (c.in-Err-Write.is ∙ ap Err c.in-Err-Write.field-0-is)
-
-pub unreachable-requires-in-Err-Spent : goal.unreachable-requires-in-Err-Spent
-unreachable-requires-in-Err-Spent c =
-    let over : c.advance.new.machine.spent ≡ true =
-    c.step.ensures.step.spent.0 (c.in-Err-Spent.is ∙ ap Err c.in-Err-Spent.field-0-is) in
+    let u = advances (goal.at.memory_refusal-requires c).After-advance in
     let going : c.advance.new.machine.spent ≡ false = c.advance.ensures.spent ∙ c.loop-ending.invariant.unspent in
-    cc
+    only_memory c.run_laws.ensures c.advance.new.self c.args.source.now.lines c.args.self.now.rules (RefusedByPlan
+    (choices_of c.step.new.chooser) c.step.new.chooser.refused_bound) _ _ _ _ _ _ turn.given _ _ _ _ _ u
+    turn.gives.first (none_follow c.step.new.source) turn.steps
+    (λ over. false≢true (sym going ∙ c.step.ensures.step.spent.0 over)) c.in-Err.fault c.in-Err.is
