@@ -120,8 +120,8 @@ fn gather_decimals(pending: &mut PendingOutput, width: u8, text: &[u8], start: u
 {
     let width = usize::from(width);
     let before = width.saturating_sub(TEXT);
-    pending.append(&BLANKS[..before]);
-    pending.append(&text[start.min(TEXT - (width - before))..]);
+    pending.append_many(&BLANKS[..before]);
+    pending.append_many(&text[start.min(TEXT - (width - before))..]);
 }
 
 // Shows a value with blanks before it up to the width.
