@@ -52,13 +52,63 @@ impl PendingOutput {
         self.buffer.room()
     }
 
-    /// Takes bytes for all of which there is room.
+    /// Takes bytes for all of which there is room: in less time where they are few, as those of most input
+    /// lines are.
     #[inline(always)]
     pub(crate) fn append(&mut self, bytes: &[u8])
         requires { length self.old + length bytes.now ≤ PENDING_LIMIT }
         ensures { self.new ≡ self.old ++ bytes.now }
     {
+        // Each is read before one is written, so that the compiler can move them together.
+        match bytes {
+            [a, b] => self.push_two(*a, *b),
+            [a, b, c] => {
+                let last = *c;
+                self.push_two(*a, *b);
+                self.buffer.push(last);
+            }
+            [a, b, c, d] => self.push_four(*a, *b, *c, *d),
+            [a, b, c, d, e] => {
+                let last = *e;
+                self.push_four(*a, *b, *c, *d);
+                self.buffer.push(last);
+            }
+            [a, b, c, d, e, f] => {
+                let (fifth, last) = (*e, *f);
+                self.push_four(*a, *b, *c, *d);
+                self.push_two(fifth, last);
+            }
+            _ => self.buffer.append(bytes),
+        }
+    }
+
+    /// Takes bytes for all of which there is room, however many: it is short where it is inlined.
+    #[inline(always)]
+    pub(crate) fn append_many(&mut self, bytes: &[u8])
+        requires { length self.old + length bytes.now ≤ PENDING_LIMIT }
+        ensures { self.new ≡ self.old ++ bytes.now }
+    {
         self.buffer.append(bytes);
+    }
+
+    // Takes two bytes.
+    #[inline(always)]
+    fn push_two(&mut self, a: u8, b: u8)
+        requires { length self.old + 2 ≤ PENDING_LIMIT }
+        ensures { self.new ≡ self.old ++ a ∷ b ∷ [] }
+    {
+        self.buffer.push(a);
+        self.buffer.push(b);
+    }
+
+    // Takes four bytes.
+    #[inline(always)]
+    fn push_four(&mut self, a: u8, b: u8, c: u8, d: u8)
+        requires { length self.old + 4 ≤ PENDING_LIMIT }
+        ensures { self.new ≡ self.old ++ a ∷ b ∷ c ∷ d ∷ [] }
+    {
+        self.push_two(a, b);
+        self.push_two(c, d);
     }
 
     /// Takes what was gathered away.

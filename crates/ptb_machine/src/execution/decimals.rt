@@ -40,6 +40,6 @@ pub(crate) fn gather_decimals(pending: &mut PendingOutput, width: u8, text: &[u8
 {
     let width = usize::from(width);
     let before = width.saturating_sub(TEXT);
-    pending.append(&BLANKS[..before]);
-    pending.append(&text[start.min(TEXT - (width - before))..]);
+    pending.append_many(&BLANKS[..before]);
+    pending.append_many(&text[start.min(TEXT - (width - before))..]);
 }
