@@ -1,9 +1,7 @@
 // This file has the lines that say why a run ended, and which option helps.
 
 ghost use Rattle.std.specs.Prelude.{◌≡◌, Some};
-ghost use Rattle.std.specs.Fmt.{WritesOnOk};
 ghost use Rattle.ptb.specs.Messages.{plural, shortage_line};
-ghost use Rattle.ptb.specs.declared.endings.Shortage.TheVariants.{Commands};
 
 use std::fmt;
 
@@ -31,36 +29,30 @@ impl fmt::Display for Shortage {
     ghost output = { λ shortage. Some (shortage_line shortage) };
 
     fn fmt<W: fmt::Write>(&self, f: &mut fmt::Formatter<W>) -> fmt::Result {
-        f.write_str(match self {
-            Shortage::Commands { line, limit } => return write_limit(*line, *limit, f),
+        match self {
+            Shortage::Commands { line, limit } => {
+                let plural = plural(*limit as usize);
+                write!(
+                    f,
+                    "ptb: stopped at line {line} by the limit of {limit} command{plural}; --steps N allows more"
+                )
+            }
             Shortage::Lines => {
-                "ptb: INPUT found no line left; give more lines, or use --choose N"
+                f.write_str("ptb: INPUT found no line left; give more lines, or use --choose N")
             }
-            Shortage::LinesBesideProgram => {
+            Shortage::LinesBesideProgram => f.write_str(
                 "ptb: INPUT found no line, since standard input was the program; \
-                 name its file as PROGRAM"
-            }
-            Shortage::Answers => {
+                 name its file as PROGRAM",
+            ),
+            Shortage::Answers => f.write_str(
                 "ptb: a random number was wanted and none is left; \
-                 use --seed N, or give more --answers"
-            }
-            Shortage::LargeAnswer => {
-                "ptb: one of the --answers is greater than its question allows; change it"
-            }
-        })
+                 use --seed N, or give more --answers",
+            ),
+            Shortage::LargeAnswer => f.write_str(
+                "ptb: one of the --answers is greater than its question allows; change it",
+            ),
+        }
     }
-}
-
-// Writes at which line this limit stopped a run.
-fn write_limit<W: fmt::Write>(line: u16, limit: u32, f: &mut fmt::Formatter<W>) -> fmt::Result
-    ensures { WritesOnOk W.write_str_gives f.old result (shortage_line (Commands line limit))
-        f.new }
-{
-    let plural = plural(limit as usize);
-    write!(
-        f,
-        "ptb: stopped at line {line} by the limit of {limit} command{plural}; --steps N allows more"
-    )
 }
 
 /// How a word ends, by how many there are.

@@ -1,9 +1,6 @@
 // This file has the lines that say what was wrong, each after the note that it explains.
 
 ghost use Rattle.std.specs.Fmt.{WritesOnOk};
-ghost use Rattle.ptb_explore.specs.declared.mismatch.Mismatch.TheVariants.{Missing, NoQuestion};
-ghost use Rattle.ptb_explore.specs.declared.mismatch.Mismatch.TheVariants.{OtherBound};
-ghost use Rattle.ptb_explore.specs.declared.mismatch.Mismatch.TheVariants.{OutOfRange};
 ghost use Rattle.ptb.specs.Messages.{list_line, mismatch_text, reason_line};
 
 use crate::endings::plural;
@@ -52,64 +49,28 @@ fn write_mismatch<W: fmt::Write>(why: Mismatch, f: &mut fmt::Formatter<W>) -> fm
             item,
             answer,
             bound,
-        } => write_out_of_range(item, answer, bound, f),
+        } => write!(
+            f,
+            "item {item} is {answer}, but its question allows 1 to {bound}"
+        ),
         Mismatch::OtherBound {
             item,
             stated,
             bound,
-        } => write_other_bound(item, stated, bound, f),
-        Mismatch::NoQuestion { items } => write_over(items, f),
-        Mismatch::Missing { item, bound } => write_missing(item, bound, f),
+        } => write!(
+            f,
+            "item {item} states the bound {stated}, but its question has {bound}"
+        ),
+        Mismatch::NoQuestion { items } => {
+            let plural = plural(items);
+            write!(f, "the run is over after {items} item{plural}")
+        }
+        Mismatch::Missing { item, bound } => {
+            write!(
+                f,
+                "item {item} is missing; its question allows 1 to {bound}"
+            )
+        }
         Mismatch::NotUnder => f.write_str("the list does not begin with the items of --under"),
     }
-}
-
-// Writes that an item is out of the range of its question.
-fn write_out_of_range<W: fmt::Write>(
-    item: usize,
-    answer: i16,
-    bound: i16,
-    f: &mut fmt::Formatter<W>,
-) -> fmt::Result
-    ensures { WritesOnOk W.write_str_gives f.old result
-        (mismatch_text (OutOfRange item answer bound)) f.new }
-{
-    write!(
-        f,
-        "item {item} is {answer}, but its question allows 1 to {bound}"
-    )
-}
-
-// Writes that an item states another bound than that of its question.
-fn write_other_bound<W: fmt::Write>(
-    item: usize,
-    stated: i16,
-    bound: i16,
-    f: &mut fmt::Formatter<W>,
-) -> fmt::Result
-    ensures { WritesOnOk W.write_str_gives f.old result
-        (mismatch_text (OtherBound item stated bound)) f.new }
-{
-    write!(
-        f,
-        "item {item} states the bound {stated}, but its question has {bound}"
-    )
-}
-
-// Writes that a run is over after so many items, though the list has more.
-fn write_over<W: fmt::Write>(items: usize, f: &mut fmt::Formatter<W>) -> fmt::Result
-    ensures { WritesOnOk W.write_str_gives f.old result (mismatch_text (NoQuestion items)) f.new }
-{
-    let plural = plural(items);
-    write!(f, "the run is over after {items} item{plural}")
-}
-
-// Writes that a run asks for one item more.
-fn write_missing<W: fmt::Write>(item: usize, bound: i16, f: &mut fmt::Formatter<W>) -> fmt::Result
-    ensures { WritesOnOk W.write_str_gives f.old result (mismatch_text (Missing item bound)) f.new }
-{
-    write!(
-        f,
-        "item {item} is missing; its question allows 1 to {bound}"
-    )
 }

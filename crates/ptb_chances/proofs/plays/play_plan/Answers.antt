@@ -101,8 +101,8 @@ returns-in-Ok-Some-clause-plays c = (
       let opens : is_open (run_from c.advance.new.self c.args.rules o.0 c.step.new.chooser.answers) ≡ true =
       rw (c.advance.ensures.program ∙ i.program, plan ∙ i.answers) o.2 in
       let fits : FitsSigned w16 c.step.new.chooser.refused_bound = search rules in
-      let x = step_plays c.run_laws.ensures c.advance.new.self c.args.rules S _ _ (choices_of l.plan) c.step.new.chooser _
-      _ turn.given _ _ _ _ _ v turn.gives.first (none_follow c.step.new.source) turn.steps
+      let x = step_plays c.run_laws.ensures c.advance.new.self c.args.rules S _ _ (choices_of l.plan) c.step.new.chooser
+      _ _ turn.given _ _ _ _ _ v turn.gives.first (none_follow c.step.new.source) turn.steps
       c.in-Ok-Some.ending c.args.player.now c.args.answers.now _ (c.advance.ensures.program ∙ i.program)
       (plan ∙ i.answers)
       (λ bad. never_out c.run_laws.ensures c.advance.new.self c.args.rules o.0 _ _
@@ -135,8 +135,9 @@ returns-then-is_used_up-clause-plays c = (
       let is : c.step.result ≡ Ok None = c.in-Ok-None.is ∙ ap Ok c.in-Ok-None.field-0-is in
       let turn = c.step.ensures.step.turn in
       let v = advances (goal.at.returns-then-is_used_up-clause-plays c).After-advance S (i.came S h) in
-      let plan = step_plan c.run_laws.ensures c.advance.new.self c.args.rules S _ _ (choices_of l.plan) c.step.new.chooser
-      _ _ turn.given _ _ _ _ _ v turn.gives.first (none_follow c.step.new.source) turn.steps None is in
+      let plan = step_plan c.run_laws.ensures c.advance.new.self c.args.rules S _ _ (choices_of l.plan)
+      c.step.new.chooser _ _ turn.given _ _ _ _ _ v turn.gives.first (none_follow c.step.new.source) turn.steps None
+      is in
       let given : c.step.new.chooser.given ≡ length c.step.new.chooser.answers = search rules in
       came_by c.advance.new.self c.args.player.now c.args.rules S _ _ _ _ _ _ (c.advance.ensures.program ∙ i.program)
       (ap (λ n. take n c.step.new.chooser.answers) given ∙ whole c.step.new.chooser.answers ∙ plan ∙ i.answers)

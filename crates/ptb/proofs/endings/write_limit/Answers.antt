@@ -1,8 +1,0 @@
--- This file proves that the limit is written.
-use Rattle.std.proofs.Common.{append_assoc}
-use Rattle.std.proofs.Output.{has_written_of_eq}
-use Rattle.ptb.proofs.endings.write_limit.Goals as goal
-
-pub returns : goal.returns
-returns g c plain ok =
-    has_written_of_eq _ _ _ _ _ (simp (append_assoc, c.plural-plural.ensures)) (c.write.ensures.writes plain ok)
