@@ -1,6 +1,6 @@
 // This file has the copies of a machine that are kept of a run, from which the next runs continue.
 
-ghost use Rattle.std.specs.Prelude.{◌≡◌, ℕ, ℤ, List, Option, [], false, IfOk};
+ghost use Rattle.std.specs.Prelude.{◌≡◌, ℕ, ℤ, List, Option, [], false, IfOk, drop, length};
 ghost use Rattle.ptb_machine.specs.Representation.{Represents};
 ghost use Rattle.ptb_machine.specs.State.{first_state};
 ghost use Rattle.ptb_explore.specs.Copies.{KeepsCopy, GoesBackTo, IsSameCopy, with_room};
@@ -152,10 +152,20 @@ impl Copies {
         ensures { self.new.kept.items ≡ with_room self.old.kept.items }
     {
         if self.kept.is_full() {
-            let KeptCopy { machine, .. } = self.kept.remove(0);
-            return machine;
+            return self.oldest_room();
         }
         self.spare.pop().flatten()
+    }
+
+    // The room of the copy with the fewest answers, which is dropped. Not inlined, since few runs have so
+    // many copies, and the loop of a play would keep the places of all of them.
+    #[inline(never)]
+    fn oldest_room(&mut self) -> Option<Box<Machine>>
+        requires { length self.old.kept.items ≡ 64 }
+        ensures { self.new.kept.items ≡ drop 1 self.old.kept.items }
+    {
+        let KeptCopy { machine, .. } = self.kept.remove(0);
+        machine
     }
 
     /// A machine at the beginning of a run of the player's program, in the room of one that no copy needs
