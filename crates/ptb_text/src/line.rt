@@ -6,7 +6,7 @@ ghost use Rattle.ptb_text.specs.Entry.{EntersNothing, IsNumbered, IsRefused};
 ghost use Rattle.ptb_text.specs.Lines.{is_printable};
 
 use crate::LoadFault;
-use crate::cursor::{is_all_blank, number_in_front};
+use crate::numerals::{is_all_blank, number_in_front};
 use crate::word::Number;
 
 /// A line with a number: its text is stored under the number, or deletes the statement if empty.

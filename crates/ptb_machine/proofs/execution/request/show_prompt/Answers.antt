@@ -4,7 +4,7 @@ use Rattle.ptb_machine.specs.Devices.{nothing_refused}
 use Rattle.ptb_machine.proofs.Borrows.{devices_then}
 use Rattle.ptb_machine.proofs.Pieces.{first_stops, second_comes}
 use Rattle.ptb_machine.proofs.Stops.{comes_err}
-use Rattle.ptb_machine.proofs.execution.input.show_prompt.Goals as goal
+use Rattle.ptb_machine.proofs.execution.request.show_prompt.Goals as goal
 
 pub returns-in_err-show : goal.returns-in_err-show
 returns-in_err-show g c = record {

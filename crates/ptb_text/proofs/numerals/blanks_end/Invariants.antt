@@ -1,7 +1,7 @@
 -- This file says what the loop over blanks keeps.
 use Rattle.std.proofs.Common.{length, ◌-◌, ◌≡◌, ◌≤◌}
 use Rattle.ptb_text.specs.Words.{past_blanks}
-use Rattle.ptb_text.proofs.cursor.blanks_end.Given as goal
+use Rattle.ptb_text.proofs.numerals.blanks_end.Given as goal
 
 abbrev pub invariant-loop-at : goal.invariant-loop-at
 invariant-loop-at l = record {

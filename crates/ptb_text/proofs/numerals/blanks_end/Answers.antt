@@ -1,7 +1,7 @@
 -- This file proves that the loop over blanks ends where they end.
 use Rattle.std.proofs.Common.{◌∙◌, sym, arith}
 use Rattle.ptb_text.proofs.Blanks.{past_blanks_more, past_blanks_stop, past_blanks_end}
-use Rattle.ptb_text.proofs.cursor.blanks_end.Goals as goal
+use Rattle.ptb_text.proofs.numerals.blanks_end.Goals as goal
 
 pub loop-at-preserved : goal.loop-at-preserved
 loop-at-preserved c = record {

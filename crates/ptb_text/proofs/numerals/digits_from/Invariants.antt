@@ -3,7 +3,7 @@ use Rattle.std.proofs.Common.{◌+◌, ◌-◌, ◌≡◌, ◌<◌, ◌≤◌, l
 use Rattle.std.specs.List.{prefix_len}
 use Rattle.ptb_text.specs.declared.cursor.TheConstants.{TOO_BIG}
 use Rattle.ptb_text.specs.Digits.{is_digit, digits_value}
-use Rattle.ptb_text.proofs.cursor.digits_from.Given as goal
+use Rattle.ptb_text.proofs.numerals.digits_from.Given as goal
 
 abbrev pub invariant-loop-count : goal.invariant-loop-count
 invariant-loop-count l = record {

@@ -1,7 +1,7 @@
 -- This file answers what is left to prove of the number in front of a text.
 use Rattle.std.proofs.Common.{refl}
 use Rattle.ptb_text.proofs.TakenTokens.{number_absent, number_value, number_too_big}
-use Rattle.ptb_text.proofs.cursor.number_in_front.Goals as goal
+use Rattle.ptb_text.proofs.numerals.number_in_front.Goals as goal
 
 pub returns-then-count-eq0-clause-value : goal.returns-then-count-eq0-clause-value
 returns-then-count-eq0-clause-value c = number_absent _ _ _ _ _ refl c.after_blanks-start.ensures.value
