@@ -7,7 +7,7 @@ use Rattle.ptb_numbers.specs.Fractions.{Ratio, plus, Equals}
 use Rattle.ptb_text.specs.Statements.{StoredProgram}
 use Rattle.ptb_answers.specs.Outcome.{Answers, Outcome}
 use Rattle.ptb_answers.specs.declared.rules.Rules.{Rules}
-use Rattle.ptb_machine.specs.Configuration.{Configuration}
+use Rattle.ptb_command.specs.Configuration.{Configuration}
 use Rattle.ptb_machine.specs.Play.{Finish, play}
 use Rattle.ptb_explore.specs.Chances.{Row, chance_of_all}
 use Rattle.ptb_explore.specs.RunTree.{leaves, tree}

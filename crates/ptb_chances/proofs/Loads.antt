@@ -8,7 +8,7 @@ use Rattle.ptb_text.specs.Statements.{StoredProgram}
 use Rattle.ptb_answers.specs.Outcome.{Answers}
 use Rattle.ptb_answers.specs.declared.rules.Rules.{Rules}
 use Rattle.ptb_machine.specs.Questions.{most_answers}
-use Rattle.ptb_machine.specs.Configuration.{Configuration}
+use Rattle.ptb_command.specs.Configuration.{Configuration}
 use Rattle.ptb_chances.specs.Waiting.{Standing, Takes, SamePlace, Puts, PutsAnswers, after_answer}
 use Rattle.ptb_chances.specs.Waiting.{load, load_of, power, room}
 

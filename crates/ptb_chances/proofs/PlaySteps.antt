@@ -11,18 +11,18 @@ use Rattle.ptb_answers.specs.declared.pause.Pause.TheVariants as pauses
 use Rattle.ptb_answers.specs.Outcome.{Answers, Outcome, Asks, Out, go_on, map_outcome, is_open}
 use Rattle.ptb_answers.specs.Choices.{Choices}
 use Rattle.ptb_answers.specs.declared.rules.Rules.{Rules}
-use Rattle.ptb_machine.specs.declared.ending.Ending.{Ending}
-use Rattle.ptb_machine.specs.declared.ending.Ending.TheVariants as endings
+use Rattle.ptb_command.specs.declared.ending.Ending.{Ending}
+use Rattle.ptb_command.specs.declared.ending.Ending.TheVariants as endings
 use Rattle.ptb_machine.specs.declared.fault.RunFault.{RunFault}
 use Rattle.ptb_machine.specs.declared.fault.RunFault.TheVariants as faults
-use Rattle.ptb_machine.specs.State.{State}
-use Rattle.ptb_machine.specs.Act.{StepResult, Over}
+use Rattle.ptb_command.specs.State.{State}
+use Rattle.ptb_command.specs.Act.{StepResult, Over}
 use Rattle.ptb_machine.specs.Play.{Finish, finish_in, turn, after_step_result, turns}
 use Rattle.ptb_machine.specs.Laws.{RunLaws}
-use Rattle.ptb_machine.specs.Devices.{ScreenState, devices, Refusal, nothing_refused, refused_by}
-use Rattle.ptb_machine.specs.Configuration.{Configuration}
-use Rattle.ptb_machine.specs.Effects.{act_state}
-use Rattle.ptb_machine.specs.Stops.{AsksUnanswered, IsOutOfLines}
+use Rattle.ptb_command.specs.Devices.{ScreenState, devices, Refusal, nothing_refused, refused_by}
+use Rattle.ptb_command.specs.Configuration.{Configuration}
+use Rattle.ptb_command.specs.Effects.{act_state}
+use Rattle.ptb_command.specs.Stops.{AsksUnanswered, IsOutOfLines}
 use Rattle.ptb_devices.specs.Sources.{Gives, LineList}
 use Rattle.ptb_machine.specs.Steps.{FitsProgram, QuietTurns, Steps}
 use Rattle.ptb_machine.specs.TurnResults.{StepsTo, goes, ends, StepComes}

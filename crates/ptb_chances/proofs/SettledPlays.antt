@@ -11,10 +11,10 @@ use Rattle.ptb_text.specs.Statements.{StoredProgram}
 use Rattle.ptb_text.specs.Lines.{lines}
 use Rattle.ptb_answers.specs.Outcome.{Answers, Outcome, Done, Asks, IsReader, is_open, is_answer, bound_of, bounds}
 use Rattle.ptb_answers.specs.declared.rules.Rules.{Rules}
-use Rattle.ptb_machine.specs.declared.ending.Ending.{Ending}
-use Rattle.ptb_machine.specs.Configuration.{Configuration}
-use Rattle.ptb_machine.specs.Representation.{Represents}
-use Rattle.ptb_machine.specs.State.{State, first_state}
+use Rattle.ptb_command.specs.declared.ending.Ending.{Ending}
+use Rattle.ptb_command.specs.Configuration.{Configuration}
+use Rattle.ptb_command.specs.Representation.{Represents}
+use Rattle.ptb_command.specs.State.{State, first_state}
 use Rattle.ptb_machine.specs.Play.{Finish, play}
 use Rattle.ptb_explore.specs.Chances.{Row, RunResult, answer_count, bound_product, chance_of_all}
 use Rattle.ptb_explore.specs.Chances.{last_line, result_of, result_order, runs_with}

@@ -5,11 +5,11 @@ pub use Rattle.ptb_explore.specs.Chances.{chances, last_line, rank, result_order
 pub use Rattle.ptb_explore.specs.PlannedPlays.{run_from}
 pub use Rattle.ptb_explore.specs.ReportText.{field}
 pub use Rattle.ptb_explore.specs.RunTree.{tree}
-pub use Rattle.ptb_machine.specs.Configuration.{Configuration}
+pub use Rattle.ptb_command.specs.Configuration.{Configuration}
 pub use Rattle.ptb_machine.specs.Play.{play}
 pub use Rattle.ptb_machine.specs.Questions.{most_answers}
-pub use Rattle.ptb_machine.specs.Representation.{Represents}
-pub use Rattle.ptb_machine.specs.State.{State, first_state}
+pub use Rattle.ptb_command.specs.Representation.{Represents}
+pub use Rattle.ptb_command.specs.State.{State, first_state}
 pub use Rattle.ptb_machine.specs.Steps.{FitsProgram, QuietTurns}
 pub use Rattle.ptb_numbers.specs.Decimals.{decimals}
 pub use Rattle.ptb_numbers.specs.Fractions.{lowest, Equals, plus}

@@ -14,11 +14,11 @@ use Rattle.ptb_text.specs.Lines.{lines}
 use Rattle.ptb_text.specs.Statements.{StoredProgram}
 use Rattle.ptb_answers.specs.Outcome.{Answers, Done, Asks, is_open}
 use Rattle.ptb_answers.specs.declared.rules.Rules.{Rules}
-use Rattle.ptb_machine.specs.declared.ending.Ending.{Ending}
-use Rattle.ptb_machine.specs.declared.ending.Ending.TheVariants as endings
-use Rattle.ptb_machine.specs.Configuration.{Configuration}
-use Rattle.ptb_machine.specs.Representation.{Represents}
-use Rattle.ptb_machine.specs.State.{State}
+use Rattle.ptb_command.specs.declared.ending.Ending.{Ending}
+use Rattle.ptb_command.specs.declared.ending.Ending.TheVariants as endings
+use Rattle.ptb_command.specs.Configuration.{Configuration}
+use Rattle.ptb_command.specs.Representation.{Represents}
+use Rattle.ptb_command.specs.State.{State}
 use Rattle.ptb_machine.specs.Play.{Finish}
 use Rattle.ptb_explore.specs.Chances.{last_line}
 use Rattle.ptb_explore.specs.PlannedPlays.{run_from}

@@ -9,7 +9,7 @@ use Rattle.ptb_text.specs.Statements.{StoredProgram}
 use Rattle.ptb_answers.specs.Outcome.{Answers, Outcome, bounds}
 use Rattle.ptb_answers.specs.Choices.{Choices}
 use Rattle.ptb_devices.specs.Sources.{LineList}
-use Rattle.ptb_machine.specs.Configuration.{Configuration}
+use Rattle.ptb_command.specs.Configuration.{Configuration}
 use Rattle.ptb_machine.specs.Play.{play}
 use Rattle.ptb_answers.specs.Asked.{answers_in, bounds_in}
 use Rattle.ptb_explore.specs.declared.copies.KeptCopy.{KeptCopy}

@@ -14,10 +14,10 @@ use Rattle.ptb_answers.specs.Seeds.{RefusedForMemory, SeededAnswers, drawn_from,
 use Rattle.ptb_answers.specs.Drawn.{answers_by}
 use Rattle.ptb_answers.proofs.Drawn.{drawn_alone}
 use Rattle.ptb_answers.proofs.Seeds.{length-drawn, same_generator}
-use Rattle.ptb_machine.specs.declared.ending.Ending.{Ending}
-use Rattle.ptb_machine.specs.declared.ending.Ending.TheVariants as endings
-use Rattle.ptb_machine.specs.Configuration.{Configuration}
-use Rattle.ptb_machine.specs.Devices.{devices, refused_by}
+use Rattle.ptb_command.specs.declared.ending.Ending.{Ending}
+use Rattle.ptb_command.specs.declared.ending.Ending.TheVariants as endings
+use Rattle.ptb_command.specs.Configuration.{Configuration}
+use Rattle.ptb_command.specs.Devices.{devices, refused_by}
 use Rattle.ptb_machine.specs.declared.fault.RunFault.{RunFault}
 use Rattle.ptb_machine.specs.Laws.{RunLaws}
 use Rattle.ptb_machine.specs.Play.{Finish, play, turn}

@@ -1,7 +1,7 @@
 -- This file proves that what holds of each ending by its name holds of every ending.
 -- Main lemma: `every_ending`.
-use Rattle.ptb_machine.specs.declared.ending.Ending.{Ending}
-use Rattle.ptb_machine.specs.declared.ending.Ending.TheVariants as endings
+use Rattle.ptb_command.specs.declared.ending.Ending.{Ending}
+use Rattle.ptb_command.specs.declared.ending.Ending.TheVariants as endings
 
 pub every_ending : (P : Ending → Type 0) → P endings.End → P endings.Stop → P endings.What → P endings.How
     → P endings.Sorry → P endings.Limit → P endings.NoInput → P endings.NoAnswer → P endings.BadAnswer

@@ -11,19 +11,19 @@ use Rattle.ptb_answers.specs.declared.pause.Pause.TheVariants as pauses
 use Rattle.ptb_devices.specs.Sources.{LineList, Gives}
 use Rattle.ptb_answers.specs.Outcome.{Answers, Outcome, Done, Asks, Out, go_on, map_outcome, bounds}
 use Rattle.ptb_answers.specs.Choices.{Choices, AsksFor, Reaches}
-use Rattle.ptb_machine.specs.declared.ending.Ending.{Ending}
-use Rattle.ptb_machine.specs.declared.ending.Ending.TheVariants as endings
+use Rattle.ptb_command.specs.declared.ending.Ending.{Ending}
+use Rattle.ptb_command.specs.declared.ending.Ending.TheVariants as endings
 use Rattle.ptb_machine.specs.declared.fault.RunFault.{RunFault}
 use Rattle.ptb_machine.specs.declared.fault.RunFault.TheVariants as faults
-use Rattle.ptb_machine.specs.State.{State, first_state}
-use Rattle.ptb_machine.specs.Act.{StepResult, Next, Over}
+use Rattle.ptb_command.specs.State.{State, first_state}
+use Rattle.ptb_command.specs.Act.{StepResult, Next, Over}
 use Rattle.ptb_machine.specs.Play.{Finish, turn, after_step_result, turns, play}
 use Rattle.ptb_machine.specs.Laws.{RunLaws}
-use Rattle.ptb_machine.specs.Devices.{ScreenState, Devices, devices, Refusal, nothing_refused, refused_by}
-use Rattle.ptb_machine.specs.Configuration.{Configuration}
-use Rattle.ptb_machine.specs.Effects.{act_state}
-use Rattle.ptb_machine.specs.Representation.{Represents}
-use Rattle.ptb_machine.specs.Stops.{AsksUnanswered, IsOutOfLines}
+use Rattle.ptb_command.specs.Devices.{ScreenState, Devices, devices, Refusal, nothing_refused, refused_by}
+use Rattle.ptb_command.specs.Configuration.{Configuration}
+use Rattle.ptb_command.specs.Effects.{act_state}
+use Rattle.ptb_command.specs.Representation.{Represents}
+use Rattle.ptb_command.specs.Stops.{AsksUnanswered, IsOutOfLines}
 use Rattle.ptb_machine.specs.Steps.{QuietTurns, Steps}
 use Rattle.ptb_machine.specs.TurnResults.{StepsTo, goes, ends, StepComes}
 use Rattle.ptb_answers.specs.declared.rules.Rules.{Rules}

@@ -8,7 +8,7 @@ use Rattle.std.proofs.lemmas.Bool.{and_from}
 use Rattle.std.proofs.lemmas.Int.{ints}
 use Rattle.std.proofs.lemmas.List.{length-replicate, take-append-drop, take-append-le, length-take-le}
 use Rattle.ptb_answers.specs.Outcome.{Answers, Outcome, Done, Asks, Out, IsReader, bounds, is_answer, is_open, is_whole}
-use Rattle.ptb_machine.specs.declared.ending.Ending.{Ending}
+use Rattle.ptb_command.specs.declared.ending.Ending.{Ending}
 use Rattle.ptb_machine.specs.Play.{Finish}
 use Rattle.ptb_explore.specs.declared.plan.Position.{Position}
 use Rattle.ptb_explore.specs.declared.plan.Position.TheVariants.{AtStart, AtRun, AtEnd}

@@ -8,8 +8,8 @@ use Rattle.std.proofs.Math.Seq.{take-length}
 use Rattle.ptb_answers.specs.declared.form.Marked.{Marked}
 use Rattle.ptb_answers.specs.AnswerText.{answers_of}
 use Rattle.ptb_answers.specs.Outcome.{Answers, Outcome, Done, IsReader, is_open, is_whole, is_answer, bounds}
-use Rattle.ptb_machine.specs.declared.ending.Ending.{Ending}
-use Rattle.ptb_machine.specs.declared.ending.Ending.TheVariants as endings
+use Rattle.ptb_command.specs.declared.ending.Ending.{Ending}
+use Rattle.ptb_command.specs.declared.ending.Ending.TheVariants as endings
 use Rattle.ptb_machine.specs.Play.{Finish}
 use Rattle.ptb_explore.proofs.Recorded.{recorded_len}
 use Rattle.ptb_explore.specs.declared.recorder.Recorder.{Recorder}

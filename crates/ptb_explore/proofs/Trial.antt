@@ -15,7 +15,7 @@ use Rattle.ptb_explore.specs.declared.recorder.Recorder.{Recorder}
 use Rattle.ptb_explore.specs.RunTree.{IsRun}
 use Rattle.ptb_explore.specs.Plans.{IsFresh, PlanEndsWith}
 use Rattle.ptb_explore.specs.Recorders.{choices_of, given_bounds, recorded}
-use Rattle.ptb_machine.specs.declared.ending.Ending.{Ending}
+use Rattle.ptb_command.specs.declared.ending.Ending.{Ending}
 use Rattle.ptb_machine.specs.Play.{Finish}
 use Rattle.ptb_explore.specs.PlannedPlays.{Holds, NextIsOutside, PlayEnds}
 use Rattle.ptb_explore.proofs.Bounds.{bounds-append, length-bounds}

@@ -16,8 +16,8 @@ use Rattle.ptb_numbers.specs.Fractions.{Ratio, total, lowest}
 use Rattle.ptb_numbers.specs.Decimals.{decimals}
 use Rattle.ptb_text.specs.Lines.{lines}
 use Rattle.ptb_answers.specs.Outcome.{Answers, Outcome, Done, Asks, Out, bounds}
-use Rattle.ptb_machine.specs.declared.ending.Ending.{Ending}
-use Rattle.ptb_machine.specs.declared.ending.Ending.TheVariants as endings
+use Rattle.ptb_command.specs.declared.ending.Ending.{Ending}
+use Rattle.ptb_command.specs.declared.ending.Ending.TheVariants as endings
 use Rattle.ptb_machine.specs.Play.{Finish}
 use Rattle.ptb_explore.specs.ReportText.{field}
 use Rattle.ptb_explore.specs.RunTree.{tree}

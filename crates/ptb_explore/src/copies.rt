@@ -1,8 +1,8 @@
 // This file has the copies of a machine that are kept of a run, from which the next runs continue.
 
 ghost use Rattle.std.specs.Prelude.{◌≡◌, ℕ, ℤ, List, Option, [], false, IfOk, drop, length};
-ghost use Rattle.ptb_machine.specs.Representation.{Represents};
-ghost use Rattle.ptb_machine.specs.State.{first_state};
+ghost use Rattle.ptb_command.specs.Representation.{Represents};
+ghost use Rattle.ptb_command.specs.State.{first_state};
 ghost use Rattle.ptb_explore.specs.Copies.{KeepsCopy, GoesBackTo, IsSameCopy, with_room};
 
 use arrayvec::ArrayVec;

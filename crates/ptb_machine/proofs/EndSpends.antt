@@ -11,11 +11,11 @@ use Rattle.ptb_expr.specs.declared.fault.FaultKind.{FaultKind}
 use Rattle.ptb_expr.specs.declared.fault.FaultKind.TheVariants as kinds
 use Rattle.ptb_expr.specs.Store.{value_at, with_value}
 use Rattle.ptb_expr.specs.Value.{in_range}
-use Rattle.ptb_machine.specs.State.{Place, Loop, Call, State}
-use Rattle.ptb_machine.specs.Actions.{change}
-use Rattle.ptb_machine.specs.Act.{fails, is_full, if_room, goto_action, with_call, gosub_action}
-use Rattle.ptb_machine.specs.Act.{return_action, without_loop, with_loop, for_action, loops_from}
-use Rattle.ptb_machine.specs.Act.{after_sum, is_past, loop_end, loop_turn, next_action, finish}
+use Rattle.ptb_command.specs.State.{Place, Loop, Call, State}
+use Rattle.ptb_command.specs.Actions.{change}
+use Rattle.ptb_command.specs.Act.{fails, is_full, if_room, goto_action, with_call, gosub_action}
+use Rattle.ptb_command.specs.Act.{return_action, without_loop, with_loop, for_action, loops_from}
+use Rattle.ptb_command.specs.Act.{after_sum, is_past, loop_end, loop_turn, next_action, finish}
 use Rattle.ptb_machine.proofs.Budgets.{Budget, done_budget}
 use Rattle.ptb_machine.proofs.SpentAnswers.{left_for, Spends, halt_spends, after_spends, lines_cost}
 use Rattle.ptb_machine.proofs.SpentAnswers.{later, become_spends}

@@ -8,10 +8,10 @@ use Rattle.ptb_answers.specs.declared.chooser.Chooser as choosers
 use Rattle.ptb_answers.specs.declared.rules.Rules.{Rules}
 use Rattle.ptb_devices.specs.declared.lines.LineSource as sources
 use Rattle.ptb_devices.specs.declared.screen.Screen as screens
-use Rattle.ptb_machine.specs.declared.ending.Ending.{Ending}
+use Rattle.ptb_command.specs.declared.ending.Ending.{Ending}
 use Rattle.ptb_machine.specs.declared.fault.RunFault.{RunFault}
 use Rattle.ptb_machine.specs.declared.run_end.RunEnd.{RunEnd}
-use Rattle.ptb_machine.specs.Stops.{ReportsMissed}
+use Rattle.ptb_command.specs.Stops.{ReportsMissed}
 use Rattle.ptb_machine.specs.RunDevices.{RunDevices, held, refusals}
 use Rattle.ptb_machine.specs.Runs.{IsLineOf, IsRun, IsRunToEnd, Runs, run_miss}
 

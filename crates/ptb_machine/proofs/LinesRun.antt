@@ -13,9 +13,9 @@ use Rattle.ptb_answers.specs.declared.pause.Pause.TheVariants as pauses
 use Rattle.ptb_answers.specs.declared.rules.Rules.{Rules}
 use Rattle.ptb_answers.specs.Choices.{Choices}
 use Rattle.ptb_answers.specs.Outcome.{Answers}
-use Rattle.ptb_machine.specs.declared.ending.Ending.{Ending}
-use Rattle.ptb_machine.specs.Devices.{devices, refused_by}
-use Rattle.ptb_machine.specs.Stops.{NotMissed, UnlessMissed}
+use Rattle.ptb_command.specs.declared.ending.Ending.{Ending}
+use Rattle.ptb_command.specs.Devices.{devices, refused_by}
+use Rattle.ptb_command.specs.Stops.{NotMissed, UnlessMissed}
 use Rattle.ptb_text.specs.declared.device_fault.DeviceFault.{DeviceFault}
 use Rattle.ptb_devices.specs.declared.reader_lines.ReaderLines.{ReaderLines}
 use Rattle.ptb_devices.specs.Inputs.{InputNow, InputState, ReadsOn, Refuses, asked, fault_at}

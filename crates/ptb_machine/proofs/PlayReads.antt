@@ -10,18 +10,18 @@ use Rattle.ptb_answers.specs.Outcome.{Answers, Outcome, Done, map_outcome, IsRea
 use Rattle.ptb_expr.specs.Reading.{item_of}
 use Rattle.ptb_answers.proofs.Readers.{done_reader, then_reader_by, map_reader, wider_reader}
 use Rattle.ptb_expr.specs.Laws.{ValueLaws}
-use Rattle.ptb_machine.specs.Commands.{Command}
-use Rattle.ptb_machine.specs.State.{Place, State, first_state, text_of, next_command}
-use Rattle.ptb_machine.specs.Actions.{Faults, Ends, Progress, Goes, Halts}
-use Rattle.ptb_machine.specs.Act.{finish, end_of, letter_of, first_width, command_action}
-use Rattle.ptb_machine.specs.Act.{StepResult, Next, Over, step_result_of, with_step, act}
-use Rattle.ptb_machine.specs.Act.{parts_action}
+use Rattle.ptb_command.specs.Commands.{Command}
+use Rattle.ptb_command.specs.State.{Place, State, first_state, text_of, next_command}
+use Rattle.ptb_command.specs.Actions.{Faults, Ends, Progress, Goes, Halts}
+use Rattle.ptb_command.specs.Act.{finish, end_of, letter_of, first_width, command_action}
+use Rattle.ptb_command.specs.Act.{StepResult, Next, Over, step_result_of, with_step, act}
+use Rattle.ptb_command.specs.Act.{parts_action}
 use Rattle.ptb_answers.specs.declared.rules.Rules.{Rules}
 use Rattle.ptb_machine.specs.Questions.{command_questions, line_questions, most_answers, answers_left}
 use Rattle.ptb_machine.specs.Play.{Last, act_unless, turn_by, turn, after_turn, turns_within}
 use Rattle.ptb_machine.specs.Play.{all_turns, finish_of, turns, play}
-use Rattle.ptb_machine.specs.Effects.{act_state, CommandChange}
-use Rattle.ptb_machine.proofs.Effects.{act_keeps}
+use Rattle.ptb_command.specs.Effects.{act_state, CommandChange}
+use Rattle.ptb_command.proofs.Effects.{act_keeps}
 use Rattle.ptb_machine.proofs.Budgets.{Budget, wider_budget, done_budget, map_budget}
 use Rattle.ptb_machine.proofs.SpentAnswers.{left_for, Spends, wider_spends, then_spends, lines_cost, later}
 use Rattle.ptb_machine.proofs.PartsSpend.{parts_questions, parts_spends}

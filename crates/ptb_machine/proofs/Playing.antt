@@ -14,21 +14,21 @@ use Rattle.ptb_answers.specs.declared.pause.Pause.{Pause}
 use Rattle.ptb_answers.specs.declared.pause.Pause.TheVariants as pauses
 use Rattle.ptb_answers.specs.Outcome.{Answers, Outcome, Done, Asks, Out}
 use Rattle.ptb_answers.specs.Choices.{AsksFor, Choices, with_answers}
-use Rattle.ptb_machine.specs.declared.ending.Ending.{Ending}
-use Rattle.ptb_machine.specs.declared.ending.Ending.TheVariants as endings
+use Rattle.ptb_command.specs.declared.ending.Ending.{Ending}
+use Rattle.ptb_command.specs.declared.ending.Ending.TheVariants as endings
 use Rattle.ptb_machine.specs.declared.fault.RunFault.{RunFault}
 use Rattle.ptb_machine.specs.declared.fault.RunFault.TheVariants as runs
 use Rattle.ptb_answers.specs.declared.rules.Rules.{Rules}
 use Rattle.ptb_machine.specs.declared.run_end.RunEnd.{RunEnd}
 use Rattle.ptb_machine.specs.Play.{Finish, play, stopping_line, unasked_lines, plain, plain_of}
-use Rattle.ptb_machine.specs.Effects.{Begins}
+use Rattle.ptb_command.specs.Effects.{Begins}
 use Rattle.ptb_text.specs.declared.device_fault.DeviceFault.{DeviceFault}
 use Rattle.ptb_text.specs.declared.device_fault.DeviceFault.TheVariants as reads
 use Rattle.ptb_devices.specs.Sources.{NoneLeft}
-use Rattle.ptb_machine.specs.Breakage.{Breakage}
-use Rattle.ptb_machine.specs.Breakage as errors
-use Rattle.ptb_machine.specs.Devices.{ScreenState, Devices, devices, with_failures, Exchange, Refusal, refused_by}
-use Rattle.ptb_machine.specs.Stops.{UnlessMissed}
+use Rattle.ptb_command.specs.Breakage.{Breakage}
+use Rattle.ptb_command.specs.Breakage as errors
+use Rattle.ptb_command.specs.Devices.{ScreenState, Devices, devices, with_failures, Exchange, Refusal, refused_by}
+use Rattle.ptb_command.specs.Stops.{UnlessMissed}
 use Rattle.ptb_machine.specs.PlayResults.{played_bytes, Plays, IsFinished, IsUnanswered}
 use Rattle.ptb_machine.specs.PlayResults.{IsUnfinished, LacksInput, RunComes}
 use Rattle.ptb_machine.specs.Runs.{run_miss, Runs, StopsAt, IsLineOf}

@@ -6,19 +6,19 @@ use Rattle.ptb_expr.specs.declared.fault.Fault.{Fault}
 use Rattle.ptb_expr.specs.declared.fault.FaultKind.{FaultKind}
 use Rattle.ptb_expr.specs.declared.fault.FaultKind.TheVariants as kinds
 use Rattle.ptb_answers.specs.declared.pause.Pause.TheVariants as pauses
-use Rattle.ptb_machine.specs.declared.ending.Ending.{Ending}
-use Rattle.ptb_machine.specs.declared.ending.Ending.TheVariants as endings
+use Rattle.ptb_command.specs.declared.ending.Ending.{Ending}
+use Rattle.ptb_command.specs.declared.ending.Ending.TheVariants as endings
 use Rattle.ptb_machine.specs.declared.fault.RunFault.{RunFault}
 use Rattle.ptb_machine.specs.declared.fault.RunFault.TheVariants as faults
 use Rattle.ptb_text.specs.declared.device_fault.DeviceFault.{DeviceFault}
 use Rattle.ptb_text.specs.declared.device_fault.DeviceFault.TheVariants as screens
-use Rattle.ptb_machine.specs.declared.stop.Stop.{Stop}
-use Rattle.ptb_machine.specs.declared.stop.Stop.TheVariants as stops
-use Rattle.ptb_machine.specs.Act.{report_bytes}
-use Rattle.ptb_machine.specs.Traces.{Trace}
-use Rattle.ptb_machine.specs.Reports.{IsShown}
-use Rattle.ptb_machine.specs.Stops.{UnlessMissed, miss_of}
-use Rattle.ptb_machine.proofs.MissedLines.{miss_unmissed}
+use Rattle.ptb_command.specs.declared.stop.Stop.{Stop}
+use Rattle.ptb_command.specs.declared.stop.Stop.TheVariants as stops
+use Rattle.ptb_command.specs.Act.{report_bytes}
+use Rattle.ptb_command.specs.Traces.{Trace}
+use Rattle.ptb_command.specs.Reports.{IsShown}
+use Rattle.ptb_command.specs.Stops.{UnlessMissed, miss_of}
+use Rattle.ptb_command.proofs.MissedLines.{miss_unmissed}
 use Rattle.ptb_machine.specs.CommandResults.{reported, stopped, IsResultOf}
 use Rattle.ptb_machine.specs.Steps.{step_miss}
 

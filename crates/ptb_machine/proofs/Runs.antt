@@ -10,34 +10,34 @@ use Rattle.ptb_text.specs.Statements.{StoredProgram}
 use Rattle.ptb_answers.specs.declared.pause.Pause.{Pause}
 use Rattle.ptb_answers.specs.declared.pause.Pause.TheVariants as pauses
 use Rattle.ptb_answers.specs.Outcome.{Answers, Outcome, Done, Asks, Out, go_on, map_outcome}
-use Rattle.ptb_machine.specs.declared.ending.Ending.{Ending}
-use Rattle.ptb_machine.specs.declared.ending.Ending.TheVariants as endings
+use Rattle.ptb_command.specs.declared.ending.Ending.{Ending}
+use Rattle.ptb_command.specs.declared.ending.Ending.TheVariants as endings
 use Rattle.ptb_machine.specs.declared.fault.RunFault.{RunFault}
 use Rattle.ptb_machine.specs.declared.fault.RunFault.TheVariants as faults
-use Rattle.ptb_machine.specs.Breakage.{Breakage}
-use Rattle.ptb_machine.specs.Breakage as errors
-use Rattle.ptb_machine.specs.State.{Place, State, first_state}
-use Rattle.ptb_machine.specs.Act.{StepResult, Next, Over}
+use Rattle.ptb_command.specs.Breakage.{Breakage}
+use Rattle.ptb_command.specs.Breakage as errors
+use Rattle.ptb_command.specs.State.{Place, State, first_state}
+use Rattle.ptb_command.specs.Act.{StepResult, Next, Over}
 use Rattle.ptb_machine.specs.Play.{Last, last_in, after_turn, turn, all_turns, last_state}
 use Rattle.ptb_machine.specs.Play.{unasked_lines, next_number, Finish, finish_of, turns, play}
-use Rattle.ptb_machine.specs.Effects.{act_state, Begins, TakesLines}
-use Rattle.ptb_machine.specs.Devices.{ScreenState, Devices, with_screen, Shows, Exchange}
-use Rattle.ptb_machine.specs.Devices.{no_exchange, both_exchanges, Exchanges, MayFollow, Refusal}
-use Rattle.ptb_machine.specs.Devices.{nothing_refused}
-use Rattle.ptb_machine.specs.Traces.{Leaves}
-use Rattle.ptb_machine.specs.Stops.{AsksNext, Continues, LacksLine, AsksUnanswered, IsOutOfLines, DeviceFails}
+use Rattle.ptb_command.specs.Effects.{act_state, Begins, TakesLines}
+use Rattle.ptb_command.specs.Devices.{ScreenState, Devices, with_screen, Shows, Exchange}
+use Rattle.ptb_command.specs.Devices.{no_exchange, both_exchanges, Exchanges, MayFollow, Refusal}
+use Rattle.ptb_command.specs.Devices.{nothing_refused}
+use Rattle.ptb_command.specs.Traces.{Leaves}
+use Rattle.ptb_command.specs.Stops.{AsksNext, Continues, LacksLine, AsksUnanswered, IsOutOfLines, DeviceFails}
 use Rattle.ptb_answers.specs.declared.rules.Rules.{Rules}
-use Rattle.ptb_machine.specs.Configuration.{Configuration}
-use Rattle.ptb_machine.specs.Representation.{PlacesAre, Represents}
+use Rattle.ptb_command.specs.Configuration.{Configuration}
+use Rattle.ptb_command.specs.Representation.{PlacesAre, Represents}
 use Rattle.ptb_machine.specs.PlayResults.{played_bytes, Plays, refused_answers, IsFinished}
 use Rattle.ptb_machine.specs.PlayResults.{IsUnanswered, IsUnfinished, LacksInput, RunComes}
 use Rattle.ptb_machine.specs.Runs.{Runs, StopsAt}
 use Rattle.ptb_machine.specs.Steps.{IsBefore, Steps, QuietTurns}
 use Rattle.ptb_machine.specs.TurnResults.{StepsTo, goes, ends, StepComes}
-use Rattle.ptb_machine.proofs.Effects.{begins_joined, takes_joined}
-use Rattle.ptb_machine.proofs.Exchanges.{shows_then, exchanges_none, exchanges_then, no_lines, has_broken_from}
-use Rattle.ptb_machine.proofs.PartRefinement.{leaves_itself, leaves_then, leaves_to, leaves_under, leaves_at}
-use Rattle.ptb_machine.proofs.Stops.{asks_before}
+use Rattle.ptb_command.proofs.Effects.{begins_joined, takes_joined}
+use Rattle.ptb_command.proofs.Exchanges.{shows_then, exchanges_none, exchanges_then, no_lines, has_broken_from}
+use Rattle.ptb_command.proofs.PartRefinement.{leaves_itself, leaves_then, leaves_to, leaves_under, leaves_at}
+use Rattle.ptb_command.proofs.Stops.{asks_before}
 use Rattle.ptb_machine.proofs.Turns.{all_by_turn, turn_goes, all_change}
 
 -- ---- a turn, and the turns after it

@@ -26,14 +26,14 @@ use Rattle.ptb_devices.proofs.CutLines.{input_lines-cut}
 use Rattle.ptb_text.specs.Statements.{StoredProgram}
 use Rattle.ptb_answers.specs.declared.pause.Pause.{Pause}
 use Rattle.ptb_answers.specs.Outcome.{Answers}
-use Rattle.ptb_machine.specs.Devices.{Devices, refused_by}
+use Rattle.ptb_command.specs.Devices.{Devices, refused_by}
 use Rattle.ptb_machine.specs.declared.fault.RunFault.TheVariants as runs
 use Rattle.ptb_answers.specs.declared.rules.Rules.{Rules}
-use Rattle.ptb_machine.specs.Stops.{NotMissed, UnlessMissed}
+use Rattle.ptb_command.specs.Stops.{NotMissed, UnlessMissed}
 use Rattle.ptb_machine.specs.PlayResults.{RunComes}
 use Rattle.ptb_machine.specs.Runs.{run_miss}
-use Rattle.ptb_machine.specs.declared.ending.Ending.{Ending}
-use Rattle.ptb_machine.specs.declared.ending.Ending.TheVariants as endings
+use Rattle.ptb_command.specs.declared.ending.Ending.{Ending}
+use Rattle.ptb_command.specs.declared.ending.Ending.TheVariants as endings
 use Rattle.ptb_machine.specs.declared.fault.RunFault.{RunFault}
 use Rattle.ptb_machine.specs.Play.{plain}
 use Rattle.ptb_machine.specs.Noted.{noted_result}

@@ -7,14 +7,14 @@ use Rattle.ptb_answers.specs.declared.chooser.Chooser as choosers
 use Rattle.ptb_answers.specs.declared.rules.Rules.{Rules}
 use Rattle.ptb_devices.specs.declared.lines.LineSource as sources
 use Rattle.ptb_devices.specs.declared.screen.Screen as screens
-use Rattle.ptb_machine.specs.declared.ending.Ending.{Ending}
-use Rattle.ptb_machine.specs.declared.ending.Ending.TheVariants as endings
-use Rattle.ptb_machine.specs.Configuration.{Configuration}
-use Rattle.ptb_machine.specs.Devices.{MayFollow}
-use Rattle.ptb_machine.specs.Representation.{PlacesAre, Represents}
-use Rattle.ptb_machine.specs.State.{Place, first_state}
-use Rattle.ptb_machine.specs.Stops.{NotMissed, ReportsMissed}
-use Rattle.ptb_machine.proofs.MissedLines.{missed_from, not_missed, not_missed_then}
+use Rattle.ptb_command.specs.declared.ending.Ending.{Ending}
+use Rattle.ptb_command.specs.declared.ending.Ending.TheVariants as endings
+use Rattle.ptb_command.specs.Configuration.{Configuration}
+use Rattle.ptb_command.specs.Devices.{MayFollow}
+use Rattle.ptb_command.specs.Representation.{PlacesAre, Represents}
+use Rattle.ptb_command.specs.State.{Place, first_state}
+use Rattle.ptb_command.specs.Stops.{NotMissed, ReportsMissed}
+use Rattle.ptb_command.proofs.MissedLines.{missed_from, not_missed, not_missed_then}
 use Rattle.ptb_machine.specs.declared.fault.RunFault.{RunFault}
 use Rattle.ptb_machine.specs.declared.fault.RunFault.TheVariants as faults
 use Rattle.ptb_machine.specs.Play.{next_number}

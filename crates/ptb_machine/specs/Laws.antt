@@ -6,14 +6,14 @@ use Rattle.ptb_text.specs.declared.word.Word.{Word}
 use Rattle.ptb_text.specs.Statements.{Statements, StoredProgram}
 use Rattle.ptb_expr.specs.Tree.{Tree}
 use Rattle.ptb_answers.specs.Outcome.{Answers, Done, go_on, IsReader}
-use Rattle.ptb_machine.specs.Commands.{Part, Command}
-use Rattle.ptb_machine.specs.State.{State, Place, first_state, nesting, nesting_limit}
-use Rattle.ptb_machine.specs.Act.{Next, input_action, parts_action, finish, command_action, with_step, act}
+use Rattle.ptb_command.specs.Commands.{Part, Command}
+use Rattle.ptb_command.specs.State.{State, Place, first_state, nesting, nesting_limit}
+use Rattle.ptb_command.specs.Act.{Next, input_action, parts_action, finish, command_action, with_step, act}
 use Rattle.ptb_answers.specs.declared.rules.Rules.{Rules}
 use Rattle.ptb_machine.specs.Play.{turn, after_turn, turns_within, all_turns, last_state}
 use Rattle.ptb_machine.specs.Play.{after_step_result, turns, play}
 use Rattle.ptb_machine.specs.Questions.{most_answers, answers_left}
-use Rattle.ptb_machine.specs.Effects.{action_state, act_state, Begins, PartChange, EndChange, CommandChange}
+use Rattle.ptb_command.specs.Effects.{action_state, act_state, Begins, PartChange, EndChange, CommandChange}
 use Rattle.ptb_machine.specs.RunEffects.{run_shown, run_steps, TurnChange}
 
 -- ---- what may change

@@ -10,11 +10,11 @@ use Rattle.std.specs.Prelude.{ℕ, zero, suc, ◌-◌, nat_le, Bool, true, false
 use Rattle.ptb_text.specs.Statements.{Statements, StoredProgram}
 use Rattle.ptb_answers.specs.Outcome.{Answers, Outcome, Done, Asks, Out, go_on, map_outcome}
 use Rattle.ptb_answers.specs.declared.rules.Rules.{Rules}
-use Rattle.ptb_machine.specs.declared.ending.Ending.{Ending}
-use Rattle.ptb_machine.specs.declared.ending.Ending.TheVariants as endings
-use Rattle.ptb_machine.specs.Commands.{Command}
-use Rattle.ptb_machine.specs.State.{State, Place, first_state, next_command}
-use Rattle.ptb_machine.specs.Act.{StepResult, Next, Over, act}
+use Rattle.ptb_command.specs.declared.ending.Ending.{Ending}
+use Rattle.ptb_command.specs.declared.ending.Ending.TheVariants as endings
+use Rattle.ptb_command.specs.Commands.{Command}
+use Rattle.ptb_command.specs.State.{State, Place, first_state, next_command}
+use Rattle.ptb_command.specs.Act.{StepResult, Next, Over, act}
 
 -- ---- turns
 

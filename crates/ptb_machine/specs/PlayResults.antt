@@ -15,15 +15,15 @@ use Rattle.ptb_answers.specs.declared.pause.Pause.{Pause}
 use Rattle.ptb_answers.specs.declared.pause.Pause.TheVariants as pauses
 use Rattle.ptb_answers.specs.declared.rules.Rules.{Rules}
 use Rattle.ptb_answers.specs.Outcome.{Answers, Outcome, Done, Asks, Out}
-use Rattle.ptb_machine.specs.declared.ending.Ending.{Ending}
-use Rattle.ptb_machine.specs.declared.ending.Ending.TheVariants as endings
-use Rattle.ptb_machine.specs.Breakage.{Breakage}
-use Rattle.ptb_machine.specs.Breakage as errors
-use Rattle.ptb_machine.specs.Devices.{Devices, with_failures, Exchange, Exchanges, Refusal}
-use Rattle.ptb_machine.specs.Devices.{Unanswered, NoLine, HasBroken}
-use Rattle.ptb_machine.specs.Effects.{Begins}
-use Rattle.ptb_machine.specs.Stops.{AsksNext}
-use Rattle.ptb_machine.specs.Traces.{Leaves}
+use Rattle.ptb_command.specs.declared.ending.Ending.{Ending}
+use Rattle.ptb_command.specs.declared.ending.Ending.TheVariants as endings
+use Rattle.ptb_command.specs.Breakage.{Breakage}
+use Rattle.ptb_command.specs.Breakage as errors
+use Rattle.ptb_command.specs.Devices.{Devices, with_failures, Exchange, Exchanges, Refusal}
+use Rattle.ptb_command.specs.Devices.{Unanswered, NoLine, HasBroken}
+use Rattle.ptb_command.specs.Effects.{Begins}
+use Rattle.ptb_command.specs.Stops.{AsksNext}
+use Rattle.ptb_command.specs.Traces.{Leaves}
 use Rattle.ptb_machine.specs.declared.fault.RunFault.{RunFault}
 use Rattle.ptb_machine.specs.declared.fault.RunFault.TheVariants as faults
 use Rattle.ptb_machine.specs.Play.{Finish, play, unasked_lines}

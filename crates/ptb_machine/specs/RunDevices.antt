@@ -7,8 +7,8 @@ use Rattle.ptb_answers.specs.declared.chooser.Chooser as choosers
 use Rattle.ptb_answers.specs.declared.rules.Rules.{Rules}
 use Rattle.ptb_devices.specs.declared.screen.Screen as screens
 use Rattle.ptb_devices.specs.declared.lines.LineSource as sources
-use Rattle.ptb_machine.specs.declared.command_io.CommandIo.{CommandIo}
-use Rattle.ptb_machine.specs.Devices.{Devices, devices, screen_state, Refusal, refused_by}
+use Rattle.ptb_command.specs.declared.command_io.CommandIo.{CommandIo}
+use Rattle.ptb_command.specs.Devices.{Devices, devices, screen_state, Refusal, refused_by}
 
 pub record RunDevices (C S L : Type 0) : Type 0 where
   pub chooser : C

@@ -4,8 +4,8 @@
 --     TurnChange limit S T             what a turn of a run may change
 use Rattle.std.specs.Prelude.{ℕ, ◌≤◌, List}
 use Rattle.ptb_answers.specs.Outcome.{Outcome, Done, Asks, Out}
-use Rattle.ptb_machine.specs.State.{State, nesting, nesting_limit}
-use Rattle.ptb_machine.specs.Effects.{Begins, TakesLines}
+use Rattle.ptb_command.specs.State.{State, nesting, nesting_limit}
+use Rattle.ptb_command.specs.Effects.{Begins, TakesLines}
 use Rattle.ptb_machine.specs.Play.{Finish}
 
 abbrev pub run_shown : Outcome Finish State → List ℕ

@@ -15,10 +15,10 @@ use Rattle.ptb_answers.specs.declared.rules.Rules.{Rules}
 use Rattle.ptb_answers.specs.Outcome.{Answers, Outcome}
 use Rattle.ptb_devices.specs.declared.lines.LineSource as sources
 use Rattle.ptb_devices.specs.declared.screen.Screen as screens
-use Rattle.ptb_machine.specs.declared.ending.Ending.{Ending}
-use Rattle.ptb_machine.specs.declared.ending.Ending.TheVariants as endings
-use Rattle.ptb_machine.specs.Devices.{Devices, Exchange, MayFollow, Refusal}
-use Rattle.ptb_machine.specs.Stops.{Miss, ReportsMissed}
+use Rattle.ptb_command.specs.declared.ending.Ending.{Ending}
+use Rattle.ptb_command.specs.declared.ending.Ending.TheVariants as endings
+use Rattle.ptb_command.specs.Devices.{Devices, Exchange, MayFollow, Refusal}
+use Rattle.ptb_command.specs.Stops.{Miss, ReportsMissed}
 use Rattle.ptb_machine.specs.declared.fault.RunFault.{RunFault}
 use Rattle.ptb_machine.specs.declared.run_end.RunEnd.{RunEnd}
 use Rattle.ptb_machine.specs.Play.{Finish, stopping_line}

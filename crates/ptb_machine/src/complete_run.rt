@@ -3,12 +3,12 @@
 ghost use Rattle.std.specs.Prelude.{◌≡◌, ℕ, ℤ, List, Option, false, IfOk};
 ghost use Rattle.ptb_machine.specs.Prelude.{Represents, first_state, run_devices, IsRun, IsRunToEnd, FitsProgram};
 
-use crate::ending::Ending;
 use crate::fault::RunFault;
 use crate::machine::Machine;
 use crate::player::Player;
 use crate::run_end::RunEnd;
 use ptb_answers::{Chooser, Rules};
+use ptb_command::Ending;
 use ptb_devices::{LineSource, Screen};
 use ptb_text::Program;
 use std::alloc::{AllocError, Global};

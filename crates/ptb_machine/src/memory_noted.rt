@@ -4,10 +4,10 @@ ghost use Rattle.std.specs.Prelude.{◌≡◌, IfOk, Ok, false};
 ghost use Rattle.ptb_machine.specs.Runs.{ending_alone};
 ghost use Rattle.ptb_machine.specs.Noted.{noted, noted_result};
 
-use crate::ending::Ending;
 use crate::fault::RunFault;
 use crate::run_end::RunEnd;
 use ptb_answers::{Chooser, Pause};
+use ptb_command::Ending;
 
 /// Answers as another chooser does. Where that one is refused memory, no answer is left, and the
 /// refusal is noted.

@@ -6,12 +6,12 @@ ghost use Rattle.ptb_machine.specs.Prelude.{play, ending_alone, GoesBy, HasLine,
 ghost use Rattle.ptb_machine.specs.Prelude.{IsDrawn, SeededLaws, reads_of, writes_of};
 
 use crate::complete_run::run_to_end;
-use crate::ending::Ending;
 use crate::fault::RunFault;
 use crate::laws::{run_laws, seeded_laws};
 use crate::memory_noted::MemoryNoted;
 use crate::run_end::RunEnd;
 use ptb_answers::{Chooser, Listed, Pause, Rules, Seeded};
+use ptb_command::Ending;
 use ptb_devices::{ReaderLines, WriterScreen};
 use ptb_text::{Program, Read, Write};
 use std::alloc::Global;

@@ -4,11 +4,9 @@ ghost use Rattle.std.specs.Prelude.{◌≡◌, ◌++◌, take, drop, IfOk};
 ghost use Rattle.ptb_machine.specs.Prelude.{Cells, ending_of, report_bytes, Devices, screen_state, with_screen, trace};
 ghost use Rattle.ptb_machine.specs.Prelude.{IsShown};
 
-use crate::ending::Ending;
-use crate::fault_words::fault_line;
-use crate::output::put;
 use arrayvec::{ArrayVec, CapacityError};
 use itoa::Buffer;
+use ptb_command::{Ending, fault_line, put};
 use ptb_devices::Screen;
 use ptb_expr::{Fault, FaultKind};
 use ptb_text::DeviceFault;

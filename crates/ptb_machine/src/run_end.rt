@@ -1,6 +1,6 @@
 // This file has how a run ended, and where.
 
-use crate::ending::Ending;
+use ptb_command::Ending;
 
 /// How a run ended, and where.
 #[derive(Clone, Copy, Debug, PartialEq, Eq)]

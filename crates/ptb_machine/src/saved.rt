@@ -3,7 +3,7 @@
 ghost use Rattle.std.specs.Prelude.{◌≡◌, ◌↔◌, true, IsOk, IsTrue, OnOk, OnErr};
 
 use crate::machine::Machine;
-use crate::saved_registers::SavedRegisters;
+use ptb_command::SavedRegisters;
 use std::alloc::{AllocError, Global};
 use std::marker::Model;
 
@@ -20,7 +20,7 @@ pub struct SavedMachine {
 }
 
 impl Model for SavedMachine {
-    ghost use Rattle.ptb_machine.specs.Configuration.{Configuration, configuration};
+    ghost use Rattle.ptb_command.specs.Configuration.{Configuration, configuration};
 
     ghost Value = { Configuration };
 

@@ -2,16 +2,13 @@
 
 ghost use Rattle.std.specs.Prelude.{◌≡◌, ℕ, List, Some, slice_get};
 ghost use Rattle.ptb_expr.specs.Store.{Cells};
-ghost use Rattle.ptb_machine.specs.CommandIo.{io_trace, SameDevices};
+ghost use Rattle.ptb_command.specs.CommandIo.{io_trace, SameDevices};
 ghost use Rattle.ptb_machine.specs.CommandResults.{IsResultOf, stopped};
 
-use crate::command_io::CommandIo;
-use crate::ending::Ending;
 use crate::fault::RunFault;
 use crate::reports::{ending_of, report};
-use crate::statements::line_at;
-use crate::stop::Stop;
 use ptb_answers::{Chooser, Pause};
+use ptb_command::{CommandIo, Ending, Stop, line_at};
 use ptb_devices::{LineSource, Screen};
 use ptb_text::Program;
 

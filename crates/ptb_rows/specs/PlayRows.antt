@@ -5,9 +5,9 @@ use Rattle.std.specs.Prelude.{◌≡◌, ℕ, List, [], ◌∷◌, ◌++◌, Opt
 use Rattle.ptb_text.specs.Lines.{input_lines}
 use Rattle.ptb_text.specs.Statements.{program}
 use Rattle.ptb_answers.specs.Outcome.{Answers, Outcome, Done, Asks, Out}
-use Rattle.ptb_machine.specs.declared.ending.Ending.{Ending}
-use Rattle.ptb_machine.specs.declared.ending.Ending.TheVariants.{End, Stop, What, How, Sorry, Limit}
-use Rattle.ptb_machine.specs.declared.ending.Ending.TheVariants.{NoInput, NoAnswer, BadAnswer}
+use Rattle.ptb_command.specs.declared.ending.Ending.{Ending}
+use Rattle.ptb_command.specs.declared.ending.Ending.TheVariants.{End, Stop, What, How, Sorry, Limit}
+use Rattle.ptb_command.specs.declared.ending.Ending.TheVariants.{NoInput, NoAnswer, BadAnswer}
 use Rattle.ptb_machine.specs.Play.{Finish, play, plain}
 
 -- what a program text shows on an input, and its ending; none where the text is refused

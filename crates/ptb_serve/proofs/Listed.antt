@@ -17,7 +17,7 @@ use Rattle.ptb_text.specs.declared.device_fault.DeviceFault.{DeviceFault}
 use Rattle.ptb_text.specs.declared.device_fault.DeviceFault.TheVariants as reads
 use Rattle.ptb_devices.specs.Sources.{IsSourceFault}
 use Rattle.ptb_devices.specs.Sources.{ConsumesAtMost}
-use Rattle.ptb_machine.specs.Effects.{Begins}
+use Rattle.ptb_command.specs.Effects.{Begins}
 use Rattle.ptb_answers.specs.declared.rules.Rules.{Rules}
 use Rattle.ptb_machine.specs.Play.{Finish, play}
 use Rattle.ptb_machine.specs.Questions.{most_answers}

@@ -13,7 +13,7 @@ use Rattle.ptb_text.specs.Entry.{IsLineFault}
 use Rattle.ptb_text.specs.Loading.{IsLoaded, IsRefusedAt}
 use Rattle.ptb_text.specs.Statements.{Statements, StoredProgram, program_limit}
 use Rattle.ptb_text.specs.Lines.{input_lines}
-use Rattle.ptb_machine.specs.declared.ending.Ending.{Ending}
+use Rattle.ptb_command.specs.declared.ending.Ending.{Ending}
 use Rattle.ptb_machine.specs.declared.fault.RunFault.{RunFault}
 use Rattle.ptb_answers.specs.Outcome.{Answers}
 use Rattle.ptb_answers.specs.declared.form.Form.{Form}

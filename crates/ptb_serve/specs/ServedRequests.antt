@@ -31,7 +31,7 @@ use Rattle.ptb_text.specs.Lines.{input_lines}
 use Rattle.ptb_text.specs.Statements.{StoredProgram, program_limit}
 use Rattle.ptb_text.specs.declared.device_fault.DeviceFault.{DeviceFault}
 use Rattle.ptb_text.specs.declared.device_fault.DeviceFault.TheVariants as devices
-use Rattle.ptb_machine.specs.declared.ending.Ending.TheVariants as endings
+use Rattle.ptb_command.specs.declared.ending.Ending.TheVariants as endings
 use Rattle.ptb_answers.specs.Outcome.{Answers}
 use Rattle.ptb_answers.specs.declared.rules.Rules.{Rules}
 use Rattle.ptb_answers.specs.declared.form.Form.{Form}

@@ -3,7 +3,7 @@ use Rattle.std.proofs.Common.{◌≡◌, ◌∙◌, ap, subst, List, ℕ, [], �
 use Rattle.std.specs.Io.KnownBytes.{Appends}
 use Rattle.std.proofs.lemmas.Result.{on_ok_weaker, on_err_weaker}
 use Rattle.ptb_text.specs.Device.{TakesSome}
-use Rattle.ptb_machine.specs.Act.{newline}
+use Rattle.ptb_command.specs.Act.{newline}
 use Rattle.ptb_check.proofs.writer.write_parts.Goals as goal
 
 joined : (w d s t q r n : List ℕ) → w ++ (d ++ (s ++ (t ++ (q ++ (r ++ (n ++ [])))))) ≡ w ++ d ++ s ++ t ++ q ++ r ++ n

@@ -8,7 +8,7 @@ use Rattle.std.proofs.lemmas.Result.{on_ok_weaker, on_err_weaker}
 use Rattle.std.specs.Io.KnownBytes.{Appends}
 use Rattle.ptb_expr.specs.declared.fault.Fault.{Fault}
 use Rattle.ptb_text.specs.Device.{TakesSome}
-use Rattle.ptb_machine.specs.Act.{newline, report_bytes, fault_word}
+use Rattle.ptb_command.specs.Act.{newline, report_bytes, fault_word}
 use Rattle.ptb_check.proofs.writer.write_report.Goals as goal
 use Rattle.ptb_check.proofs.writer.write_report.Goals.{After-write_parts}
 

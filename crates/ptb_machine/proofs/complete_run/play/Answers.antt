@@ -1,9 +1,9 @@
 -- This file answers what is left to prove of `play`.
 use Rattle.std.proofs.Common.{◌≡◌, arith, refl, sym, ap, subst, ◌∙◌, Option, Ok, Err}
 use Rattle.ptb_text.specs.Statements.{StoredProgram}
-use Rattle.ptb_machine.specs.declared.ending.Ending.TheVariants as endings
-use Rattle.ptb_machine.specs.Representation.{PlacesAre}
-use Rattle.ptb_machine.specs.State.{Place}
+use Rattle.ptb_command.specs.declared.ending.Ending.TheVariants as endings
+use Rattle.ptb_command.specs.Representation.{PlacesAre}
+use Rattle.ptb_command.specs.State.{Place}
 use Rattle.ptb_machine.specs.Play.{next_number}
 use Rattle.ptb_machine.proofs.Ends.{end_broken}
 use Rattle.ptb_machine.proofs.Runs.{not_spent}

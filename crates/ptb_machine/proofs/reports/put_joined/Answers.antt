@@ -1,6 +1,6 @@
 -- This file answers what is left to prove of `put_joined`.
 use Rattle.std.proofs.Common.{◌∙◌, ◌++◌, refl}
-use Rattle.ptb_machine.proofs.ShownPieces.{shown_then, unshown_first, three_shown, shown_same}
+use Rattle.ptb_command.proofs.ShownPieces.{shown_then, unshown_first, three_shown, shown_same}
 use Rattle.ptb_machine.proofs.reports.put_joined.Goals as goal
 
 pub returns-in-Ok : goal.returns-in-Ok

@@ -2,7 +2,7 @@
 use Rattle.std.proofs.Common.{◌≡◌, ◌∙◌, ap, refl, ℕ, List, Some, Ok, Err, rules, to_z, of_z, w16}
 use Rattle.std.specs.Prelude.{slice_get, unsigned_abs}
 use Rattle.std.proofs.lemmas.Result.{err_from_is_err_and}
-use Rattle.ptb_machine.specs.CommandIo.{io_devices}
+use Rattle.ptb_command.specs.CommandIo.{io_devices}
 use Rattle.ptb_machine.proofs.Results.{result_done, result_stopped, result_reported}
 use Rattle.ptb_machine.proofs.stop_result.result_of.Given as given
 use Rattle.ptb_machine.proofs.stop_result.result_of.Goals as goal

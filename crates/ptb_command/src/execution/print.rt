@@ -1,0 +1,121 @@
+// This file shows values and texts, as PRINT does, by `show_expression`, and has what a command gathers.
+
+ghost use Rattle.std.specs.Prelude.{◌≡◌, ◌∷◌, [], ℕ, ℤ, List};
+ghost use Rattle.ptb_command.specs.Prelude.{Cells, Tree, first_width, padded_decimal, parts_action, goes_on, show};
+ghost use Rattle.ptb_command.specs.Prelude.{AreStepsAt, FailsWithoutValue, IsIn, IsLiteralIn, bytes_in, literal_bytes};
+ghost use Rattle.ptb_command.specs.Prelude.{Part, Show, nothing_refused, refused_answers, due_trace, SameDevices};
+ghost use Rattle.ptb_command.specs.Prelude.{Comes};
+
+use crate::command_io::CommandIo;
+use crate::execution::decimals::{TEXT, gather_decimals, write_decimal};
+use crate::execution::values::short_value;
+use crate::operation::{Expression, Literal, Range};
+use crate::pending_output::PendingOutput;
+use crate::stop::Stop;
+use ptb_answers::Chooser;
+use ptb_devices::{LineSource, Screen};
+use ptb_expr::{Step, Steps, Store};
+
+/// The width of the values at the start of each command.
+pub const FIRST_WIDTH: u8 = 6;
+
+/// What a command has gathered, and the width of the values that it shows. It is lent to one command
+/// after the other: to make one takes longer than to begin again with it.
+#[derive(Drop)]
+pub struct Output {
+    /// The bytes that are shown later.
+    pub pending: PendingOutput,
+    /// The width.
+    pub width: u8,
+    /// A room for the steps of an input line.
+    pub(crate) room: Steps,
+}
+
+impl Output {
+    /// Nothing is gathered, and the width is that of the start of a command.
+    pub fn new() -> Output
+        ensures pending { result.pending ≡ [] }
+        ensures width { result.width ≡ first_width }
+    {
+        Output {
+            pending: PendingOutput::new(),
+            width: FIRST_WIDTH,
+            room: Steps::new(),
+        }
+    }
+
+    /// Begins again, for another command.
+    #[inline(always)]
+    pub(crate) fn begin(&mut self)
+        ensures pending { self.new.pending ≡ [] }
+        ensures width { self.new.width ≡ first_width }
+    {
+        self.pending.clear();
+        self.width = FIRST_WIDTH;
+    }
+}
+
+/// The bytes of a text in a range; none where the range ends after the text.
+pub(crate) fn bytes_in(text: &[u8], range: Range) -> &[u8]
+    ensures { IsIn text.now range → result.now ≡ bytes_in text.now range }
+{
+    let from = usize::from(range.from);
+    let to = usize::from(range.to);
+    text.get(from..to).unwrap_or(&[])
+}
+
+/// The bytes of a literal, which may be in this text.
+pub(crate) fn literal_bytes(text: &[u8], literal: Literal) -> &[u8]
+    ensures { IsLiteralIn text.now literal → result.now ≡ literal_bytes text.now literal }
+{
+    match literal {
+        Literal::Text(range) => bytes_in(text, range),
+        Literal::Return => b"\r",
+    }
+}
+
+// Shows a value with blanks before it up to the width.
+#[inline(always)]
+fn show_value<C: Chooser, S: Screen, L: LineSource>(
+    io: &mut CommandIo<'_, C, S, L>,
+    pending: &mut PendingOutput,
+    width: u8,
+    value: i16,
+) -> Result<(), Stop>
+    ensures comes { (given : List (List ℕ)) (cells : Cells) → Comes nothing_refused
+        (due_trace C.choices S.Screen L.most io.old given cells
+        pending.old)
+        (due_trace C.choices S.Screen L.most io.new given cells
+        pending.new)
+        (show (padded_decimal width value)) goes_on result }
+    ensures same { SameDevices io.old io.new }
+{
+    let mut text = [b' '; TEXT];
+    let start = write_decimal(value, &mut text, TEXT);
+    io.make_room(pending, usize::from(width).max(TEXT - start))?;
+    gather_decimals(pending, width, &text, start);
+    Ok(())
+}
+
+/// Shows the value of an expression.
+#[inline(always)]
+pub(crate) fn show_expression<C: Chooser, S: Screen, L: LineSource>(
+    steps: &[Step],
+    expression: Expression,
+    store: &Store,
+    io: &mut CommandIo<'_, C, S, L>,
+    output: &mut Output,
+) -> Result<(), Stop>
+    ensures comes { (given : List (List ℕ)) (x : Tree) (rest : List Part) (operands : List ℤ) →
+        AreStepsAt steps.now expression x →
+        Comes (refused_answers (C.refused io.new.chooser.now))
+        (due_trace C.choices S.Screen L.most io.old given store.now output.old.pending)
+        (due_trace C.choices S.Screen L.most io.new given store.now output.new.pending)
+        (parts_action (Show x ∷ rest) output.old.width operands)
+        (λ _. parts_action rest output.new.width operands) result }
+    ensures valued { FailsWithoutValue steps.now expression result }
+    ensures same { SameDevices io.old io.new }
+{
+    let value = short_value(steps, expression, store, io.chooser)?;
+    show_value(io, &mut output.pending, output.width, value)
+}

@@ -1,0 +1,192 @@
+// This file gathers what a command shows, so that the screen gets it at once.
+
+ghost use Rattle.std.specs.Prelude.{◌≡◌, ◌↔◌, ◌≤◌, ◌+◌, ◌++◌, ◌∷◌, List, ℕ, [], length, IsTrue, IsFalse};
+ghost use Rattle.ptb_command.specs.Prelude.{Cells, goes_on, show_action, Devices, screen_state, with_screen};
+ghost use Rattle.ptb_command.specs.Prelude.{nothing_refused, trace, with_due, Comes};
+
+use crate::output::show;
+use crate::stop::Stop;
+use ptb_devices::Screen;
+use ptb_text::ByteBuffer;
+use std::marker::Model;
+
+/// How many bytes are gathered at most. An item of PRINT shows no more than 255.
+pub const PENDING_LIMIT: usize = 512;
+
+/// What a command is to show, and hasn't shown yet. It takes no memory. Contracts see its bytes.
+#[derive(Drop)]
+pub struct PendingOutput {
+    buffer: ByteBuffer<PENDING_LIMIT>,
+}
+
+impl Model for PendingOutput {
+    ghost use Rattle.std.specs.Prelude.{List, ℕ};
+
+    ghost Value = { List ℕ };
+
+    ghost view = { λ g. g.buffer };
+}
+
+impl PendingOutput {
+    /// Nothing is gathered yet.
+    pub fn new() -> Self
+        ensures { result ≡ [] }
+    {
+        PendingOutput {
+            buffer: ByteBuffer::new(),
+        }
+    }
+
+    /// The bytes that were gathered.
+    pub fn as_slice(&self) -> &[u8]
+        ensures { result.now ≡ self.now }
+    {
+        self.buffer.as_slice()
+    }
+
+    /// How many bytes there is still room for.
+    #[inline(always)]
+    pub(crate) fn room(&self) -> usize
+        ensures { length self.now + result ≡ PENDING_LIMIT }
+    {
+        self.buffer.room()
+    }
+
+    /// Takes bytes for all of which there is room: in less time where they are few, as those of most input
+    /// lines are.
+    #[inline(always)]
+    pub(crate) fn append(&mut self, bytes: &[u8])
+        requires { length self.old + length bytes.now ≤ PENDING_LIMIT }
+        ensures { self.new ≡ self.old ++ bytes.now }
+    {
+        // Each is read before one is written, so that the compiler can move them together.
+        match bytes {
+            [a, b] => self.push_two(*a, *b),
+            [a, b, c] => {
+                let last = *c;
+                self.push_two(*a, *b);
+                self.buffer.push(last);
+            }
+            [a, b, c, d] => self.push_four(*a, *b, *c, *d),
+            [a, b, c, d, e] => {
+                let last = *e;
+                self.push_four(*a, *b, *c, *d);
+                self.buffer.push(last);
+            }
+            [a, b, c, d, e, f] => {
+                let (fifth, last) = (*e, *f);
+                self.push_four(*a, *b, *c, *d);
+                self.push_two(fifth, last);
+            }
+            _ => self.buffer.append(bytes),
+        }
+    }
+
+    /// Takes bytes for all of which there is room, however many: it is short where it is inlined.
+    #[inline(always)]
+    pub(crate) fn append_many(&mut self, bytes: &[u8])
+        requires { length self.old + length bytes.now ≤ PENDING_LIMIT }
+        ensures { self.new ≡ self.old ++ bytes.now }
+    {
+        self.buffer.append(bytes);
+    }
+
+    // Takes two bytes.
+    #[inline(always)]
+    fn push_two(&mut self, a: u8, b: u8)
+        requires { length self.old + 2 ≤ PENDING_LIMIT }
+        ensures { self.new ≡ self.old ++ a ∷ b ∷ [] }
+    {
+        self.buffer.push(a);
+        self.buffer.push(b);
+    }
+
+    // Takes four bytes.
+    #[inline(always)]
+    fn push_four(&mut self, a: u8, b: u8, c: u8, d: u8)
+        requires { length self.old + 4 ≤ PENDING_LIMIT }
+        ensures { self.new ≡ self.old ++ a ∷ b ∷ c ∷ d ∷ [] }
+    {
+        self.push_two(a, b);
+        self.push_two(c, d);
+    }
+
+    /// Takes what was gathered away.
+    #[inline(always)]
+    pub(crate) fn clear(&mut self)
+        ensures { self.new ≡ [] }
+    {
+        self.buffer.clear();
+    }
+
+    /// Takes bytes, if there is room for all of them. Whether there was.
+    #[inline(always)]
+    pub fn try_append(&mut self, bytes: &[u8]) -> bool
+        ensures taken { IsTrue result → self.new ≡ self.old ++ bytes.now }
+        ensures full { IsFalse result → self.new ≡ self.old }
+        ensures room { IsTrue result ↔ (length self.old + length bytes.now ≤ PENDING_LIMIT) }
+    {
+        self.buffer.try_append(bytes)
+    }
+
+    /// Shows what was gathered. Nothing is gathered then, also where the screen fails.
+    pub(crate) fn flush<S: Screen>(&mut self, screen: &mut S, fresh: &mut bool) -> Result<(), Stop>
+        ensures comes { (d : Devices) (cells : Cells) → Comes nothing_refused
+            (with_due self.old
+            (trace (with_screen (screen_state S.Screen screen.old) d) fresh.old cells))
+            (trace (with_screen (screen_state S.Screen screen.new) d) fresh.new cells)
+            (goes_on tt) goes_on result }
+        ensures empty { self.new ≡ [] }
+    {
+        let result = show(screen, fresh, self.as_slice());
+        self.clear();
+        result
+    }
+
+    /// Shows bytes as a part of a command: later, with others, if there is room for them.
+    // inlined: most bytes find room, and to take them costs less than a call
+    #[inline(always)]
+    pub(crate) fn show<S: Screen>(
+        &mut self,
+        screen: &mut S,
+        fresh: &mut bool,
+        bytes: &[u8],
+    ) -> Result<(), Stop>
+        ensures comes { (d : Devices) (cells : Cells) → Comes nothing_refused
+            (with_due self.old
+            (trace (with_screen (screen_state S.Screen screen.old) d) fresh.old cells))
+            (with_due self.new
+            (trace (with_screen (screen_state S.Screen screen.new) d) fresh.new cells))
+            (show_action bytes.now) goes_on result }
+        ensures gathered { length self.old + length bytes.now ≤ PENDING_LIMIT
+            → self.new ≡ self.old ++ bytes.now }
+    {
+        if self.try_append(bytes) {
+            return Ok(());
+        }
+        self.flush_and_append(screen, fresh, bytes)
+    }
+
+    // Shows what was gathered, and after it bytes for which there was no room: these later, if
+    // there is room then.
+    #[inline(never)]
+    fn flush_and_append<S: Screen>(
+        &mut self,
+        screen: &mut S,
+        fresh: &mut bool,
+        bytes: &[u8],
+    ) -> Result<(), Stop>
+        ensures { (d : Devices) (cells : Cells) → Comes nothing_refused
+            (with_due self.old
+            (trace (with_screen (screen_state S.Screen screen.old) d) fresh.old cells))
+            (with_due self.new
+            (trace (with_screen (screen_state S.Screen screen.new) d) fresh.new cells))
+            (show_action bytes.now) goes_on result }
+    {
+        self.flush(screen, fresh)?;
+        if self.try_append(bytes) {
+            return Ok(());
+        }
+        show(screen, fresh, bytes)
+    }
+}
