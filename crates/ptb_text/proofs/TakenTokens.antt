@@ -1,6 +1,7 @@
 -- This file proves what a cursor takes: its text is x, and n is the next place without a blank.
 -- Main lemmas: `letter_taken`, `number_value` and `word_taken`.
-use Rattle.std.proofs.Common.{◌≡◌, ℕ, ◌+◌, ◌-◌, ◌<◌, ◌≤◌, ◌∙◌, true, false, cond, List, [], ◌∷◌, length, get_or, slice_get, zero, suc}
+use Rattle.std.proofs.Common.{◌≡◌, ℕ, ◌+◌, ◌-◌, ◌<◌, ◌≤◌, ◌∙◌, true, false, cond, List, [], ◌∷◌, length, get_or}
+use Rattle.std.proofs.Common.{slice_get, zero, suc}
 use Rattle.std.proofs.Common.{take, drop, min, Some, None, refl, sym, ap, arith, ℤ, pos}
 use Rattle.std.proofs.Common.{length-take-le, length-drop, to_z, of_z, w16, w64, Fits, SFits, inl}
 use Rattle.std.proofs.Common.{inr}

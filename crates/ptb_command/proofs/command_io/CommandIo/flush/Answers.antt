@@ -4,4 +4,5 @@ use Rattle.ptb_command.proofs.command_io.CommandIo.flush.Goals as goal
 
 pub returns-clause-comes : goal.returns-clause-comes
 returns-clause-comes g c given cells =
-    c.flush-result.ensures.comes (io_devices g.C.Chooser.choices g.S.Screen g.L.LineSource.most c.args.self.now given) cells
+    c.flush-result.ensures.comes (io_devices g.C.Chooser.choices g.S.Screen g.L.LineSource.most c.args.self.now
+    given) cells

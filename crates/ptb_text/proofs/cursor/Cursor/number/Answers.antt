@@ -25,7 +25,8 @@ pub returns-in-Ok-clause-value : goal.returns-in-Ok-clause-value
 returns-in-Ok-clause-value c =
     let digits = c.digits_from-value.ensures in
     number_value _ _ _ _ _ _ _ _ _ (text_is c.self.view_is) (next_is c.self.view_is c.self.invariant.0)
-    (next_is c.pass_to.view_is c.pass_to.invariant.0) digits.count (some_digits digits.some) digits.value c.in-Ok.ensures
+    (next_is c.pass_to.view_is c.pass_to.invariant.0) digits.count (some_digits digits.some) digits.value
+    c.in-Ok.ensures
     c.pass_to-2.ensures.place
 
 pub returns-in-Ok-clause-taken : goal.returns-in-Ok-clause-taken
