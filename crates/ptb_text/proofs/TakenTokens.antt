@@ -12,7 +12,7 @@ use Rattle.std.proofs.lemmas.Int.{ints, to_z-of_z}
 use Rattle.std.proofs.lemmas.List.{take_rest}
 use Rattle.std.proofs.lemmas.List.Sums.{prefix_len-le-length}
 use Rattle.std.proofs.lemmas.Option.{cond_some}
-use Rattle.ptb_text.specs.declared.cursor.TheConstants.{TOO_BIG}
+use Rattle.ptb_text.specs.declared.numerals.TheConstants.{TOO_BIG}
 use Rattle.ptb_text.specs.declared.word.Table.{Table}
 use Rattle.ptb_text.specs.declared.word.Word.{Word}
 use Rattle.ptb_text.specs.declared.word.Number.{Number}

@@ -1,7 +1,7 @@
 -- This file says what the loop over digits keeps.
 use Rattle.std.proofs.Common.{◌+◌, ◌-◌, ◌≡◌, ◌<◌, ◌≤◌, length, take, drop}
 use Rattle.std.specs.List.{prefix_len}
-use Rattle.ptb_text.specs.declared.cursor.TheConstants.{TOO_BIG}
+use Rattle.ptb_text.specs.declared.numerals.TheConstants.{TOO_BIG}
 use Rattle.ptb_text.specs.Digits.{is_digit, digits_value}
 use Rattle.ptb_text.proofs.numerals.digits_from.Given as goal
 
