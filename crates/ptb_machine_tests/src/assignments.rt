@@ -3,9 +3,9 @@
 use crate::shared::{
     execute_first, expect_same, fault, letter, next_place, plain_rules, with_line,
 };
+use ptb_command::{CommandIo, Registers, Stop};
 use ptb_devices::{Lines, TextScreen};
 use ptb_expr::Listed;
-use ptb_machine::{CommandIo, Registers, Stop};
 use ptb_text::Program;
 use std::test::Fail;
 

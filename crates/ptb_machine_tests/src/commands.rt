@@ -1,12 +1,13 @@
 // This file tests what each command does, and where a run is.
 
 use crate::shared::{MEMORY, execute_first, expect_same, fault, letter, plain_rules};
+use ptb_command::{
+    CommandIo, Location, OpenLoop, Registers, SavedRegisters, Stack, Stop, first_place, is_zero,
+    next_command, place_after, put,
+};
 use ptb_devices::{Line, Lines, TextScreen};
 use ptb_expr::{Listed, Pause, Store};
-use ptb_machine::{
-    CommandIo, Location, OpenLoop, Registers, SavedRegisters, Stack, Stop, first_place, is_zero,
-    line_at, next_command, place_after, put, start_of,
-};
+use ptb_machine::{line_at, start_of};
 use ptb_text::{Letter, LoadFault, Program};
 use std::alloc::{AllocError, Global};
 use std::process::Abort;

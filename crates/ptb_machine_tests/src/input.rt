@@ -4,9 +4,10 @@ use crate::shared::{
     Counted, UNWRITTEN, execute_first, expect_same, fault, letter, next_place, plain_rules,
     with_line,
 };
+use ptb_command::{CommandIo, Registers, Stop};
 use ptb_devices::{Line, Lines, Screen, TextScreen, WriterScreen};
 use ptb_expr::{Listed, Pause};
-use ptb_machine::{CommandIo, Registers, Rules, Stop};
+use ptb_machine::Rules;
 use ptb_text::{Device, Program};
 use std::alloc::{AllocError, Global};
 use std::test::Fail;

@@ -3,9 +3,9 @@
 use crate::shared::{
     Counted, UNWRITTEN, execute_with, expect_same, fault, next_place, plain_rules, with_line,
 };
+use ptb_command::{CommandIo, Output, PENDING_LIMIT, PendingOutput, Registers, Stop};
 use ptb_devices::{Lines, WriterScreen};
 use ptb_expr::{Listed, Pause};
-use ptb_machine::{CommandIo, Output, PENDING_LIMIT, PendingOutput, Registers, Stop};
 use ptb_text::{Device, Program};
 use std::test::Fail;
 

@@ -4,12 +4,10 @@ ghost use Rattle.std.specs.Prelude.{◌≡◌, None, Ok, IfOk, IsTrue};
 ghost use Rattle.ptb_text.specs.Statements.{program};
 ghost use Rattle.ptb_text.specs.Words.{is_letter};
 
+use ptb_command::{CommandIo, Context, Output, Registers, Stack, Stop, first_place};
 use ptb_devices::{LineSource, Screen};
 use ptb_expr::{Chooser, Store};
-use ptb_machine::{
-    CommandCode, CommandIo, Context, Output, Registers, Rules, Stack, Stop, first_place, line_at,
-    translate,
-};
+use ptb_machine::{CommandCode, Rules, line_at, translate};
 use ptb_text::{ByteSink, ByteSource, Cursor, Device, Letter, Program, load};
 use std::alloc::{AllocError, Global};
 use std::fmt::Debug;
@@ -121,7 +119,7 @@ pub(crate) fn letter(byte: u8) -> Letter
 // A fault with its mark, for tables that are constants.
 macro_rules! fault {
     ($kind:ident, $mark:literal) => {
-        Err(ptb_machine::Stop::Fault(ptb_expr::Fault {
+        Err(ptb_command::Stop::Fault(ptb_expr::Fault {
             kind: ptb_expr::FaultKind::$kind,
             mark: $mark,
         }))

@@ -5,9 +5,10 @@ use crate::translations::Shape::{
     Ask, AskReturn, AskString, Discard, Done, EndTurn, Fail, For, Gosub, Goto, If, NewLine, Remark,
     Return, ReturnByte, Set, SetElement, SetNothing, Show, Stop, Text, Width,
 };
+use ptb_command::{Literal, Prompt};
 use ptb_expr::FaultKind::{How, What};
 use ptb_expr::{FaultKind, Step};
-use ptb_machine::{CommandCode, Destination, Literal, Operation, Prompt, translate};
+use ptb_machine::{CommandCode, Destination, Operation, translate};
 
 // An operation without its expressions: what it does, and its marks and places.
 #[derive(Clone, Copy, Debug, PartialEq, Eq)]
