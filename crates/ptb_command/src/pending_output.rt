@@ -91,9 +91,9 @@ impl PendingOutput {
         self.buffer.append(bytes);
     }
 
-    // Takes two bytes.
+    /// Takes two bytes.
     #[inline(always)]
-    fn push_two(&mut self, a: u8, b: u8)
+    pub(crate) fn push_two(&mut self, a: u8, b: u8)
         requires { length self.old + 2 ≤ PENDING_LIMIT }
         ensures { self.new ≡ self.old ++ a ∷ b ∷ [] }
     {

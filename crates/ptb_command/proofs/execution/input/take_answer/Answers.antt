@@ -48,7 +48,7 @@ returns-in_err-store_answer-clause-comes g c =
     let some : ready_lines c.take_ready.result ≡ line ∷ [] = ap ready_lines c.in-Some-take_ready.is in
     let letter = c.in-Some.ensures.letter in
     let named : NamesOne c.args.request.now.destination = subst NamesOne (sym letter) tt in
-    let shown = c.append.ensures
+    let shown = c.push_two.ensures
     ∙ ap (λ (k : List ℕ). c.args.output.now.pending ++ (k ++ 58 ∷ [])) (sym c.in-Some.ensures.name) in
     let gives = gives_one_more g.L.LineSource.gives g.met.L.LineSource.gives_more s s u [] line
     (Ok c.take_ready.result) some (g.met.L.LineSource.gives_none s) c.take_ready.follows.holds-at-none.0 in
@@ -61,7 +61,7 @@ returns-in_err-store_answer-clause-comes g c =
             answering_fails c.args.request.now.said.now x prompt (refines_part_refl _ _) _
             (letter_asked c.args.request.now.said.now x prompt c.args.request.now.name.now
             (io_trace g.C.Chooser.choices g.S.Screen g.L.LineSource.most c.args.io.now before c.args.store.now)
-            c.args.output.now.pending c.append.new.self _
+            c.args.output.now.pending c.push_two.new.self _
             (prompt_known prompt _ _ is.prompt_is named) (c.in-Some.ensures.silent refl) (rw letter at is.names) shown)
             (g.L.LineSource.most u) line (before ++ line ∷ []) fewer refl
             _ _ _ _ _ _ _ c.from_residual.ensures.1 (c.in_err-store_answer.ensures.comes
@@ -79,7 +79,7 @@ returns-then-branch-clause-comes g c =
     let some : ready_lines c.take_ready.result ≡ line ∷ [] = ap ready_lines c.in-Some-take_ready.is in
     let letter = c.in-Some.ensures.letter in
     let named : NamesOne c.args.request.now.destination = subst NamesOne (sym letter) tt in
-    let shown = c.append.ensures
+    let shown = c.push_two.ensures
     ∙ ap (λ (k : List ℕ). c.args.output.now.pending ++ (k ++ 58 ∷ [])) (sym c.in-Some.ensures.name) in
     let gives = gives_one_more g.L.LineSource.gives g.met.L.LineSource.gives_more s s u [] line
     (Ok c.take_ready.result) some (g.met.L.LineSource.gives_none s) c.take_ready.follows.holds-at-none.0 in
@@ -92,7 +92,7 @@ returns-then-branch-clause-comes g c =
             answering_done c.args.request.now.said.now x prompt (refines_part_refl _ _) _
             (letter_asked c.args.request.now.said.now x prompt c.args.request.now.name.now
             (io_trace g.C.Chooser.choices g.S.Screen g.L.LineSource.most c.args.io.now before c.args.store.now)
-            c.args.output.now.pending c.append.new.self _
+            c.args.output.now.pending c.push_two.new.self _
             (prompt_known prompt _ _ is.prompt_is named) (c.in-Some.ensures.silent refl) (rw letter at is.names) shown)
             (g.L.LineSource.most u) line (before ++ line ∷ []) fewer refl
             _ _ c.if-branch.true (c.in_ok-store_answer.ensures.comes
@@ -110,7 +110,7 @@ returns-clause-comes g c =
     let some : ready_lines c.take_ready.result ≡ line ∷ [] = ap ready_lines c.in-Some-take_ready.is in
     let letter = c.in-Some.ensures.letter in
     let named : NamesOne c.args.request.now.destination = subst NamesOne (sym letter) tt in
-    let shown = c.append.ensures
+    let shown = c.push_two.ensures
     ∙ ap (λ (k : List ℕ). c.args.output.now.pending ++ (k ++ 58 ∷ [])) (sym c.in-Some.ensures.name) in
     let gives = gives_one_more g.L.LineSource.gives g.met.L.LineSource.gives_more s s u [] line
     (Ok c.take_ready.result) some (g.met.L.LineSource.gives_none s) c.take_ready.follows.holds-at-none.0 in
@@ -134,7 +134,7 @@ returns-clause-comes g c =
             (answering_again c.args.request.now.said.now x prompt (refines_part_refl _ _) _
             (letter_asked c.args.request.now.said.now x prompt c.args.request.now.name.now
             (io_trace g.C.Chooser.choices g.S.Screen g.L.LineSource.most c.args.io.now before c.args.store.now)
-            c.args.output.now.pending c.append.new.self _
+            c.args.output.now.pending c.push_two.new.self _
             (prompt_known prompt _ _ is.prompt_is named) (c.in-Some.ensures.silent refl) (rw letter at is.names) shown)
             (g.L.LineSource.most u) line (before ++ line ∷ []) fewer refl
             _ _ c.if-branch.false (c.in_ok-store_answer.ensures.comes
