@@ -8,7 +8,7 @@ ghost use Rattle.ptb_command.specs.Prelude.{Comes};
 
 use crate::command_io::CommandIo;
 use crate::execution::decimals::{TEXT, gather_decimals, write_decimal};
-use crate::execution::values::short_value;
+use crate::execution::values::shown_value;
 use crate::operation::{Expression, Literal, Range};
 use crate::pending_output::PendingOutput;
 use crate::stop::Stop;
@@ -116,6 +116,6 @@ pub(crate) fn show_expression<C: Chooser, S: Screen, L: LineSource>(
     ensures valued { FailsWithoutValue steps.now expression result }
     ensures same { SameDevices io.old io.new }
 {
-    let value = short_value(steps, expression, store, io.chooser)?;
+    let value = shown_value(steps, expression, store, io.chooser)?;
     show_value(io, &mut output.pending, output.width, value)
 }
