@@ -6,7 +6,8 @@ ghost use Rattle.ptb_text.specs.Words.{is_letter};
 use crate::shared::{cursor_in_front, expect_same};
 use ptb_expr::{
     Chooser, Fault, FaultKind, Listed, Operator, Pause, SavedStore, Seeded, ShortValue, Step,
-    Steps, Stop, Store, Target, answer_to, evaluate, evaluate_in, plain_value, read_value, target,
+    Steps, Stop, Store, Target, answer_to, evaluate, evaluate_in, plain_value, read_value,
+    single_value, target,
 };
 use ptb_text::{Cursor, Letter};
 use rand_core::utils::NextWord;
@@ -743,6 +744,18 @@ fn plain_values(rt: HostRuntime) {
         expect_lent(&rt, &store, text.as_bytes(), &mut room, Some(value));
         expect_worth(&rt, &store, text, &[], Ok((value, place)), 0);
     }
+}
+
+// A number, a variable and SIZE have a value by themselves, and no other step has.
+#[test]
+fn single_values(rt: HostRuntime) {
+    let store = lettered_store(&rt, rt.alloc());
+    let variable = Step::Variable(letter(b'J'));
+    expect_same(&rt, "7", single_value(&Step::Number(7), &store), Some(7));
+    expect_same(&rt, "J", single_value(&variable, &store), Some(100));
+    expect_same(&rt, "SIZE", single_value(&Step::Size, &store), Some(4));
+    expect_same(&rt, "minus", single_value(&Step::Minus(0), &store), None);
+    expect_same(&rt, "RND", single_value(&Step::Ask(0), &store), None);
 }
 
 // Texts of expressions that have no value, or that ask.
