@@ -206,6 +206,8 @@ impl LineBuffer {
 
 /// How many bytes the line in front of these bytes has, if its end is among them and the cleaned line
 /// is the same.
+// Not inlined, so that all that its loop needs is in registers.
+#[inline(never)]
 fn line_count(bytes: &[u8]) -> Option<usize>
     ensures line { IfSome result (λ n. IsLine (take n bytes.now) (take (n + 1) bytes.now)) }
     ensures within { IfSome result (λ n. n < length bytes.now) }

@@ -8,7 +8,7 @@ ghost use Rattle.ptb_text.specs.Prelude.{quotation_of, is_text, IsPieceFrom, wor
 
 use crate::letter::Letter;
 use crate::numerals::{after_blanks, digits_from};
-use crate::spelling::table_word_at;
+use crate::spelling::{continues_word, table_word_at};
 use crate::word::{Number, Quoted, Table, Word};
 use std::marker::Model;
 
@@ -235,7 +235,7 @@ impl<'a> Cursor<'a> {
         ensures left { bytes_left self.new ≤ bytes_left self.old }
         ensures absent { IsNone result → self.new.place ≡ self.old.place }
     {
-        if self.next == self.text.len() {
+        if self.next + 1 >= self.text.len() || !continues_word(self.text[self.next + 1]) {
             return None;
         }
         let (word, end) = table_word_at(self.text, self.next, table)?;
