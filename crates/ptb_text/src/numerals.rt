@@ -8,10 +8,40 @@ use crate::word::Number;
 // stands for every number that is too big
 const TOO_BIG: u32 = 32768;
 
-/// Where the blanks at `place` end, and the byte there: 0 at the end of the text.
+/// Where the blanks at `place` end, and the byte there: 0 at the end of the text. Most places have no blanks,
+/// so that is found before a loop.
+#[inline(always)]
+#[tactic(auto, using(crate::proofs::Blanks::past_blanks_more, crate::proofs::Blanks::past_blanks_none))]
+pub(crate) fn after_blanks(text: &[u8], place: usize) -> (usize, u8)
+    requires { place ≤ length text.now }
+    ensures value { result.0 ≡ past_blanks text.now place }
+    ensures from { place ≤ result.0 }
+    ensures within { result.0 ≤ length text.now }
+    ensures byte { result.1 ≡ get_or text.now result.0 0 }
+{
+    let byte = byte_at(text, place);
+    if byte != b' ' {
+        return (place, byte);
+    }
+    after_more_blanks(text, place + 1)
+}
+
+// The byte at `place`: 0 at the end of the text.
+#[inline(always)]
+fn byte_at(text: &[u8], place: usize) -> u8
+    requires { place ≤ length text.now }
+    ensures { result ≡ get_or text.now place 0 }
+{
+    if place == text.len() {
+        return 0;
+    }
+    text[place]
+}
+
+// The same as `after_blanks`, after a blank.
 #[inline(always)]
 #[tactic(auto, using(crate::proofs::Blanks::past_blanks_more, crate::proofs::Blanks::past_blanks_stop, crate::proofs::Blanks::past_blanks_end))]
-pub(crate) fn after_blanks(text: &[u8], place: usize) -> (usize, u8)
+fn after_more_blanks(text: &[u8], place: usize) -> (usize, u8)
     requires { place ≤ length text.now }
     ensures value { result.0 ≡ past_blanks text.now place }
     ensures from { place ≤ result.0 }
@@ -70,10 +100,7 @@ fn digits_again(text: &[u8], place: usize) -> (u32, usize, u8)
 {
     let (value, count) = leading_digits(&text[place..]);
     let end = place + count;
-    if end == text.len() {
-        return (value, end, 0);
-    }
-    (value, end, text[end])
+    (value, end, byte_at(text, end))
 }
 
 // What the digits in front of a text write, and how many they are.

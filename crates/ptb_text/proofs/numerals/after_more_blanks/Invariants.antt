@@ -1,7 +1,7 @@
 -- This file says what the loop over blanks keeps.
 use Rattle.std.proofs.Common.{length, ◌-◌, ◌≡◌, ◌≤◌}
 use Rattle.ptb_text.specs.Words.{past_blanks}
-use Rattle.ptb_text.proofs.numerals.after_blanks.Given as goal
+use Rattle.ptb_text.proofs.numerals.after_more_blanks.Given as goal
 
 abbrev pub invariant-loop-end : goal.invariant-loop-end
 invariant-loop-end l = record {
