@@ -3,11 +3,11 @@
 use Rattle.std.proofs.Common.{◌≡◌, ℕ, suc, zero, ◌+◌, ◌-◌, ◌≤◌, ◌<◌, Bool, true, false, List, []}
 use Rattle.std.proofs.Common.{◌∷◌, ◌++◌, length, map, filter, take, drop, get_or, Option, Some}
 use Rattle.std.proofs.Common.{None, refl, sym, ap, subst, ◌∙◌, append_assoc, append-nil, arith}
-use Rattle.std.proofs.Common.{length-append, length-drop, length-take, slice_index, add-one}
+use Rattle.std.proofs.Common.{length-append, length-drop, length-take, slice_index, slice_range, add-one, inl, inr}
 use Rattle.std.specs.Prelude.{◌==◌, if◌then◌else◌}
 use Rattle.std.proofs.Math.Seq.{take-append_seam, take-length, take-suc}
-use Rattle.std.proofs.lemmas.Bool.{eqb-true, ne_eqb, eq-eqb}
-use Rattle.std.proofs.lemmas.List.{map-append, take_all, take-append-drop}
+use Rattle.std.proofs.lemmas.Bool.{eqb-true, ne_eqb, eq-eqb, cases_lt}
+use Rattle.std.proofs.lemmas.List.{map-append, take_all, take-append-drop, get_or-take, get_or-drop}
 use Rattle.std.proofs.lemmas.List.Elements.{filter-append}
 use Rattle.std.proofs.lemmas.List.Folds.{list_all-append}
 use Rattle.std.specs.List.{list_all}
@@ -15,7 +15,7 @@ use Rattle.std.specs.Str.Lines.{strip_carriage_return}
 use Rattle.ptb_text.specs.Lines.{onto_first, pieces, tab_as_space, is_printable, line_limit, clean_line, input_lines}
 use Rattle.ptb_text.proofs.Edits.{both}
 use Rattle.ptb_text.proofs.Sound.{both_true}
-use Rattle.ptb_devices.specs.CutLines.{IsClean, cleaned_byte, with_byte, kept_bytes, whole_lines}
+use Rattle.ptb_devices.specs.CutLines.{IsClean, cleaned_byte, StayUpTo, with_byte, kept_bytes, whole_lines}
 use Rattle.ptb_devices.specs.CutLines.{last_piece, last_line, Cuts, IsLine, AddsLines}
 use Rattle.ptb_devices.specs.CutLineLaws.{last_piece-append, whole_lines-append}
 
@@ -165,6 +165,43 @@ KeepsUpTo_more bytes i inside room stays before =
           ∙ with_byte-kept (take i bytes) (get_or bytes i 0) (get_or bytes i 0) long stays ∙ take-next bytes i inside;
       fits = room;
     }
+
+-- ---- bytes that stay
+
+pub StayUpTo_none : (bytes : List ℕ) → StayUpTo bytes 0
+StayUpTo_none bytes i h = absurd (omega (arith, h))
+
+pub StayUpTo_more : (bytes : List ℕ) (n : ℕ) → StayUpTo bytes n
+    → cleaned_byte (get_or bytes n 0) ≡ get_or bytes n 0 ∷ [] → StayUpTo bytes (n + 1)
+StayUpTo_more bytes n before one i h = elim (cases_lt i n) [
+  | inl low ↦ before i low
+  | inr high ↦
+      let same : n ≡ i = omega (arith, high, h) in
+      subst (λ (k : ℕ). cleaned_byte (get_or bytes k 0) ≡ get_or bytes k 0 ∷ []) same one
+]
+
+-- and then those of a block
+pub StayUpTo_block : (bytes : List ℕ) (n k : ℕ) → StayUpTo bytes n → StayUpTo (slice_range bytes n (n + k)) k
+    → StayUpTo bytes (n + k)
+StayUpTo_block bytes n k before block i h = elim (cases_lt i n) [
+  | inl low ↦ before i low
+  | inr high ↦
+      let inside : i - n < k = omega (arith, high, h) in
+      let there : i - n < (n + k) - n = omega (arith, inside) in
+      let place : n + (i - n) ≡ i = omega (arith, high) in
+      let byte : get_or (slice_range bytes n (n + k)) (i - n) 0 ≡ get_or bytes i 0 =
+      get_or-take ((n + k) - n) (drop n bytes) (i - n) 0 there ∙ get_or-drop n bytes (i - n) 0
+      ∙ ap (λ (m : ℕ). get_or bytes m 0) place in
+      subst (λ (b : ℕ). cleaned_byte b ≡ b ∷ []) byte (block (i - n) inside)
+]
+
+-- the first bytes stay
+pub KeepsUpTo_stay : (bytes : List ℕ) (i : ℕ) → i ≤ length bytes → i ≤ line_limit → StayUpTo bytes i
+    → KeepsUpTo bytes i
+KeepsUpTo_stay bytes zero inside room stay = KeepsUpTo_none bytes
+KeepsUpTo_stay bytes (suc i) inside room stay = subst (KeepsUpTo bytes) (add-one i)
+    (KeepsUpTo_more bytes i (omega (arith, inside)) (omega (arith, room)) (stay i (omega arith))
+    (KeepsUpTo_stay bytes i (omega (arith, inside)) (omega (arith, room)) (λ k h. stay k (omega (arith, h)))))
 
 pub KeepsUpTo_end : (bytes : List ℕ) (i : ℕ) → i < length bytes → get_or bytes i 0 ≡ 10 → KeepsUpTo bytes i
     → IsLine (take i bytes) (take (i + 1) bytes)

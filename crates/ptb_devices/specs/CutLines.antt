@@ -2,6 +2,7 @@
 -- A piece that has not begun is None. One that has begun, be it with a byte that is dropped, is what is kept of it.
 --     begun_piece begun kept       a piece, by whether it has begun
 --     cleaned_byte b               what the cleaning makes of one byte: that byte, another or nothing
+--     StayUpTo bytes n             the cleaning leaves the first n bytes as they are
 --     with_byte kept b             what is kept after one more byte of a line
 --     IsClean kept                 at most 255 bytes, each from space to tilde
 --     kept_bytes p                 what is kept of the piece p
@@ -11,7 +12,7 @@
 --     IsLine line bytes            these bytes are the line and its end, and the cleaned line is the same
 --     Cuts p bytes given q         these bytes end the lines given, and then q has begun
 --     AddsLines p bytes old new q  the lines that these bytes end come after the old ones
-use Rattle.std.specs.Prelude.{◌≡◌, ℕ, ◌==◌, ◌≤◌, Bool, true, false, IsTrue, if◌then◌else◌, List, []}
+use Rattle.std.specs.Prelude.{◌≡◌, ℕ, ◌==◌, ◌<◌, ◌≤◌, get_or, Bool, true, false, IsTrue, if◌then◌else◌, List, []}
 use Rattle.std.specs.Prelude.{◌∷◌, ◌++◌, length, filter, take, Option, Some, None}
 use Rattle.std.specs.List.{list_all}
 use Rattle.ptb_text.specs.Lines.{tab_as_space, is_printable, line_limit}
@@ -22,6 +23,10 @@ begun_piece true kept = Some kept
 
 abbrev pub cleaned_byte : ℕ → List ℕ
 cleaned_byte b = filter is_printable (tab_as_space b ∷ [])
+
+-- the cleaning leaves the first n bytes as they are
+abbrev pub StayUpTo : List ℕ → ℕ → Type 0
+StayUpTo bytes n = (i : ℕ) → i < n → cleaned_byte (get_or bytes i 0) ≡ get_or bytes i 0 ∷ []
 
 -- a byte for which there is no room adds nothing
 abbrev pub with_byte : List ℕ → ℕ → List ℕ

@@ -4,12 +4,16 @@ ghost use Rattle.std.specs.Prelude.{◌≡◌, ◌↔◌, ◌+◌, ◌<◌, ◌�
 ghost use Rattle.std.specs.Prelude.{IsTrue, IfOk, IfErr, IfSome, MatchBool};
 ghost use Rattle.ptb_devices.specs.Prelude.{sem, Rests, line_limit, kept_bytes, IsLine, Open, fresh_input, fault_at};
 ghost use Rattle.ptb_devices.specs.Prelude.{open_piece, input_now, CutsLine, CutsAll, TakesWhole, ReadsOn, Refuses};
+ghost use Rattle.ptb_devices.specs.CutLines.{StayUpTo};
 ghost use Rattle.ptb_devices.specs.contracts.line_buffer.LineBuffer.{the_row};
 
 use crate::cutter::{LINE_LIMIT, LineCutter, stays};
 use crate::whole_input::{BUFFER_SIZE, INPUT_LIMIT};
 use ptb_text::{Allowance, DeviceFault, Piece, Read};
 use std::marker::Model;
+
+// How many bytes are looked at together for the end of a line.
+const BLOCK: usize = 8;
 
 /// How an input continues.
 #[derive(Clone, Copy)]
@@ -206,12 +210,14 @@ impl LineBuffer {
 
 /// How many bytes the line in front of these bytes has, if its end is among them and the cleaned line
 /// is the same.
+// Not inlined, so that all that its loop needs is in registers.
+#[inline(never)]
 fn line_count(bytes: &[u8]) -> Option<usize>
     ensures line { IfSome result (λ n. IsLine (take n bytes.now) (take (n + 1) bytes.now)) }
     ensures within { IfSome result (λ n. n < length bytes.now) }
     ensures short { IfSome result (λ n. n ≤ line_limit) }
 {
-    let mut count = 0;
+    let mut count = staying_blocks(bytes);
     while count < bytes.len() && stays(bytes[count]) {
         count += 1;
     }
@@ -219,6 +225,32 @@ fn line_count(bytes: &[u8]) -> Option<usize>
         return Some(count);
     }
     None
+}
+
+/// How many bytes in front of these are in blocks whose bytes the cleaning leaves as they are, all.
+#[inline(always)]
+fn staying_blocks(bytes: &[u8]) -> usize
+    ensures stay { StayUpTo bytes.now result }
+    ensures within { result ≤ length bytes.now }
+{
+    let mut count = 0;
+    while count + BLOCK <= bytes.len() && all_stay(between(bytes, count, count + BLOCK)) {
+        count += BLOCK;
+    }
+    count
+}
+
+/// Whether the cleaning leaves all these bytes as they are. Each is looked at, which a processor does at
+/// once for all of a block.
+#[inline(always)]
+fn all_stay(bytes: &[u8]) -> bool
+    ensures { IsTrue result → StayUpTo bytes.now (length bytes.now) }
+{
+    let mut all = true;
+    for byte in bytes {
+        all &= stays(*byte);
+    }
+    all
 }
 
 /// The bytes between two places.

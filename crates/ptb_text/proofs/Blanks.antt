@@ -23,6 +23,12 @@ pub past_blanks_end : (t : List ℕ) (i : ℕ) → length t ≤ i → past_blank
 unfolding past_blanks
 past_blanks_end t i h = omega (arith, at_drop_all (prefix_len is_blank) t i h)
 
+pub past_blanks_none : (t : List ℕ) (i : ℕ) → (get_or t i 0 ≡ 32 → ⊥) → past_blanks t i ≡ i
+past_blanks_none t i ne = elim (cases_lt i (length t)) [
+  | inl h ↦ past_blanks_stop t i h ne
+  | inr h ↦ past_blanks_end t i h
+]
+
 -- ---- where it is
 
 pub past_blanks_from : (t : List ℕ) (i : ℕ) → i ≤ past_blanks t i

@@ -3,7 +3,7 @@
 use Rattle.std.proofs.Common.{◌≡◌, ℕ, ◌+◌, ◌-◌, ◌<◌, ◌≤◌, ◌∙◌, true, false, cond, List, [], ◌∷◌, length, get_or}
 use Rattle.std.proofs.Common.{slice_get, zero, suc}
 use Rattle.std.proofs.Common.{take, drop, min, Some, None, refl, sym, ap, arith, ℤ, pos}
-use Rattle.std.proofs.Common.{length-take-le, length-drop, to_z, of_z, w16, w64, Fits, SFits, inl}
+use Rattle.std.proofs.Common.{length-take-le, length-drop, to_z, of_z, w16, SFits, inl}
 use Rattle.std.proofs.Common.{inr}
 use Rattle.std.specs.Prelude.{◌==◌, position}
 use Rattle.std.specs.List.{prefix_len, slice_range}
@@ -75,15 +75,10 @@ quoted_piece t x i n k same at h =
 
 -- ---- a number
 
-pub digits_within : (t x : List ℕ) (i n k : ℕ) → x ≡ t → n ≡ past_blanks t i → n ≤ length x
-    → k ≡ prefix_len is_digit (following x n) → past_blanks t i + k ≤ length t
-digits_within t x i n k same at h count =
-    let most = rw (take_rest x n) at (prefix_len-le-length is_digit (following x n)) in
-    let there = rw (take_rest x n) at count in
-    rw (sym at, sym same) (omega (arith, most, length-drop n x, there))
-
-pub fits_within : (a b : ℕ) → a ≤ b → b < 18446744073709551616 → Fits w64 a
-fits_within a b h k = omega arith
+pub digits_within : (t x : List ℕ) (n e : ℕ) → x ≡ t → n ≤ length x → e ≡ n + prefix_len is_digit (drop n x)
+    → e ≤ length t
+digits_within t x n e same h end =
+    rw (sym same) (omega (arith, prefix_len-le-length is_digit (drop n x), length-drop n x, h, end))
 
 pub number_absent : (t x : List ℕ) (i n k : ℕ) → x ≡ t → n ≡ past_blanks t i → k ≡ prefix_len is_digit (following x n)
     → k ≡ 0 → number_at t i ≡ (Absent, i)
@@ -134,6 +129,36 @@ number_too_big t x i n m k v p same at goes count some value big place =
     let all : 32767 < digits_value (take k (following x n)) = omega (arith, value, high) in
     number_there t x i n m k same at goes count some
     ∙ rw (place, lt-leb (digits_value (take k (following x n))) 32767 all) refl
+
+-- digits up to a place
+digits_up_to : (x : List ℕ) (n e : ℕ) → e ≡ n + prefix_len is_digit (drop n x)
+    → e - n ≡ prefix_len is_digit (following x n)
+digits_up_to x n e end =
+    let count : e - n ≡ prefix_len is_digit (drop n x) = omega (arith, end) in
+    count ∙ ap (prefix_len is_digit) (sym (take_rest x n))
+
+value_up_to : (x : List ℕ) (n k v : ℕ) → v ≡ min (digits_value (take k (drop n x))) TOO_BIG
+    → v ≡ min (digits_value (take k (following x n))) TOO_BIG
+value_up_to x n k v value = value ∙ ap (λ l. min (digits_value (take k l)) TOO_BIG) (sym (take_rest x n))
+
+place_up_to : (t : List ℕ) (n e p : ℕ) → n < e → p ≡ past_blanks t e → p ≡ past_blanks t (n + (e - n))
+place_up_to t n e p some place =
+    let whole : e ≡ n + (e - n) = omega (arith, some) in
+    place ∙ ap (past_blanks t) whole
+
+pub number_value_at : (t x : List ℕ) (i n e v p : ℕ) (z : ℤ) → x ≡ t → n ≡ past_blanks t i → n < e
+    → e ≡ n + prefix_len is_digit (drop n x) → v ≡ min (digits_value (take (e - n) (drop n x))) TOO_BIG
+    → SFits w16 (pos v) × (z ≡ pos v) → p ≡ past_blanks t e → number_at t i ≡ (Value (to_z w16 (of_z w16 z)), p)
+number_value_at t x i n e v p z same at some end value fits place =
+    number_value t x i n n (e - n) v p z same at at (digits_up_to x n e end) (λ q. omega (arith, some, q))
+    (value_up_to x n (e - n) v value) fits (place_up_to t n e p some place)
+
+pub number_too_big_at : (t x : List ℕ) (i n e v p : ℕ) → x ≡ t → n ≡ past_blanks t i → n < e
+    → e ≡ n + prefix_len is_digit (drop n x) → v ≡ min (digits_value (take (e - n) (drop n x))) TOO_BIG
+    → (SFits w16 (pos v) → ⊥) → p ≡ past_blanks t e → number_at t i ≡ (TooBig, p)
+number_too_big_at t x i n e v p same at some end value big place =
+    number_too_big t x i n n (e - n) v p same at at (digits_up_to x n e end) (λ q. omega (arith, some, q))
+    (value_up_to x n (e - n) v value) big (place_up_to t n e p some place)
 
 -- ---- the next byte: b is it, or 0
 

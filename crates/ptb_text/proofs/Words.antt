@@ -3,11 +3,11 @@
 use Rattle.std.proofs.Common.{◌≡◌, ℕ, ◌+◌, ◌<◌, ◌≤◌, ◌∙◌, ap, sym, subst, Bool, true, false, cond}
 use Rattle.std.proofs.Common.{List, [], ◌∷◌, map, length, drop, get_or, eqb, arith, refl, Option}
 use Rattle.std.proofs.Common.{Some, None, inl, inr}
-use Rattle.std.specs.Prelude.{◌&&◌, ◌==◌, not, nat_eq, nat_lt, find, filter, option_map, IfSome}
+use Rattle.std.specs.Prelude.{◌&&◌, ◌||◌, ◌==◌, not, nat_eq, nat_le, nat_lt, find, filter, option_map, IfSome}
 use Rattle.std.specs.Option.{option_or}
 use Rattle.std.specs.List.{starts_with, list_any, list_all}
 use Rattle.std.proofs.lemmas.Bool.{or_parts, and_parts, cases_eq, eq-eqb, ne_eqb, eqb-false}
-use Rattle.std.proofs.lemmas.Bool.{not-true, false≢true, lt-ltb}
+use Rattle.std.proofs.lemmas.Bool.{not-true, false≢true, lt-ltb, cases_lt}
 use Rattle.std.proofs.lemmas.List.{drop_more, drop_all}
 use Rattle.ptb_text.specs.declared.word.Table.{Table}
 use Rattle.ptb_text.specs.declared.word.Table.TheVariants.{Commands, Functions, To, Step}
@@ -270,7 +270,84 @@ pub is_of : (P : Word → Type 0) (r : Option (Word × ℕ)) (w : Word) → IfSo
 is_of P None w e h = tt
 is_of P (Some x) w e h = subst P (sym e) h
 
-pub word_at_end : (table : Table) (t : List ℕ) (i : ℕ) → length t ≤ past_blanks t i → word_at table t i ≡ None
+word_at_end : (table : Table) (t : List ℕ) (i : ℕ) → length t ≤ past_blanks t i → word_at table t i ≡ None
 unfolding word_at
 word_at_end table t i h =
     first_word_end (words table) t (past_blanks t i) (words_have_letters table) (drop_all (past_blanks t i) t h)
+
+-- ---- the second byte
+
+-- whether a byte can be the second of a word
+abbrev pub continues : ℕ → Bool
+continues b = nat_le 65 b || (b == 46)
+
+-- whether a word has such a letter there
+abbrev is_continued : Entry → Bool
+is_continued (k, []) = false
+is_continued (k, c ∷ []) = false
+is_continued (k, c ∷ d ∷ cs) = nat_le 65 d && has_no_period (c ∷ d ∷ cs)
+
+words_are_continued : (table : Table) → list_all is_continued (words table) ≡ true
+words_are_continued Commands = refl
+words_are_continued Functions = refl
+words_are_continued To = refl
+words_are_continued Step = refl
+
+none_mapped : (p : ℕ) (o : Option (List ℕ)) → option_map (λ w. p + length w) o ≡ None → o ≡ None
+none_mapped p None h = refl
+none_mapped p (Some w) h = absurd cc
+
+spelling_none : (c d : ℕ) (cs s : List ℕ) → has_no_period (c ∷ d ∷ cs) ≡ true → spelt false (c ∷ d ∷ cs) 0 s ≡ None
+    → spelling_in_front (c ∷ d ∷ cs) s ≡ None
+spelling_none c d cs s h e = none_mapped 0 _ (sym (spelt_word (c ∷ d ∷ cs) 0 s (omega arith) h) ∙ e)
+
+spelt_last : (c d : ℕ) (cs : List ℕ) (a : ℕ) → spelt false (c ∷ d ∷ cs) 0 (a ∷ []) ≡ None
+unfolding spelt
+spelt_last c d cs a =
+    elim (eqb a c) as (λ v. ◌≡◌ {A = Option ℕ} (cond v None None) None) [ true ↦ refl | false ↦ refl ]
+
+spelt_other : (c d : ℕ) (cs : List ℕ) (a b : ℕ) (s : List ℕ) → (b ≡ d → ⊥) → (b ≡ 46 → ⊥)
+    → spelt false (c ∷ d ∷ cs) 0 (a ∷ b ∷ s) ≡ None
+unfolding spelt
+spelt_other c d cs a b s n m = rw (ne_eqb b d n, ne_eqb b 46 m)
+    (elim (eqb a c) as (λ v. ◌≡◌ {A = Option ℕ} (cond v None None) None) [ true ↦ refl | false ↦ refl ])
+
+-- none is spelled there
+first_word_none : (ws : List Entry) (t : List ℕ) (i : ℕ) → list_all is_continued ws ≡ true
+    → ((c d : ℕ) (cs : List ℕ) → nat_le 65 d ≡ true → spelt false (c ∷ d ∷ cs) 0 (drop i t) ≡ None)
+    → first_word ws t i ≡ None
+first_word_none [] t i h f = refl
+first_word_none ((k, []) ∷ ws) t i h f = absurd (false≢true h)
+first_word_none ((k, c ∷ []) ∷ ws) t i h f = absurd (false≢true h)
+first_word_none ((k, c ∷ d ∷ cs) ∷ ws) t i h f =
+    let parts = and_parts (is_continued (k, c ∷ d ∷ cs)) (list_all is_continued ws) h in
+    let letters = and_parts (nat_le 65 d) (has_no_period (c ∷ d ∷ cs)) parts.0 in
+    rw (spelling_none c d cs (drop i t) letters.1 (f c d cs letters.0)) (first_word_none ws t i parts.1 f)
+
+-- no word is one byte
+pub word_at_last : (table : Table) (t : List ℕ) (i : ℕ) → length t ≤ past_blanks t i + 1 → word_at table t i ≡ None
+unfolding word_at
+word_at_last table t i h = elim (cases_lt (past_blanks t i) (length t)) [
+  | inl first ↦
+      let rest : drop (past_blanks t i) t ≡ get_or t (past_blanks t i) 0 ∷ [] =
+      drop_more t (past_blanks t i) 0 first
+      ∙ ap (λ s. get_or t (past_blanks t i) 0 ∷ s) (drop_all (past_blanks t i + 1) t h) in
+      first_word_none (words table) t (past_blanks t i) (words_are_continued table)
+      (λ c d cs low. ap (spelt false (c ∷ d ∷ cs) 0) rest ∙ spelt_last c d cs (get_or t (past_blanks t i) 0))
+  | inr end ↦ word_at_end table t i end
+]
+
+-- no word has another second byte
+pub word_at_other : (table : Table) (t : List ℕ) (i b : ℕ) → past_blanks t i + 1 < length t
+    → get_or t (past_blanks t i + 1) 0 ≡ b → continues b ≡ false → word_at table t i ≡ None
+unfolding word_at
+word_at_other table t i b h e n =
+    let first : past_blanks t i < length t = omega arith in
+    let parts = or_parts (nat_le 65 b) (b == 46) n in
+    let rest : drop (past_blanks t i) t ≡ get_or t (past_blanks t i) 0 ∷ b ∷ drop (past_blanks t i + 1 + 1) t =
+    drop_more t (past_blanks t i) 0 first ∙ ap (λ s. get_or t (past_blanks t i) 0 ∷ s)
+    (drop_more t (past_blanks t i + 1) 0 h ∙ ap (λ c. c ∷ drop (past_blanks t i + 1 + 1) t) e) in
+    first_word_none (words table) t (past_blanks t i) (words_are_continued table) (λ c d cs low.
+    ap (spelt false (c ∷ d ∷ cs) 0) rest
+    ∙ spelt_other c d cs _ b _ (λ q. false≢true (sym parts.0 ∙ ap (nat_le 65) q ∙ low)) (eqb-false b 46 parts.1)
+    )

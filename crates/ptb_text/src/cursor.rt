@@ -7,8 +7,8 @@ ghost use Rattle.ptb_text.specs.Prelude.{is_over, token_at, pair_at, letter_at, 
 ghost use Rattle.ptb_text.specs.Prelude.{quotation_of, is_text, IsPieceFrom, word_at, IsWordOf};
 
 use crate::letter::Letter;
-use crate::numerals::{after_blanks, digits_from};
-use crate::spelling::table_word_at;
+use crate::numerals::{after_blanks, digits_at};
+use crate::spelling::{continues_word, table_word_at};
 use crate::word::{Number, Quoted, Table, Word};
 use std::marker::Model;
 
@@ -118,6 +118,25 @@ impl<'a> Cursor<'a> {
         self.byte = byte;
     }
 
+    // The same, where this byte is at `end`: 0 at the end of the text.
+    #[inline(always)]
+    #[tactic(auto, using(crate::proofs::Blanks::past_blanks_none, crate::proofs::Blanks::past_blanks_twice))]
+    fn pass_from(&mut self, end: usize, byte: u8)
+        requires within { end ≤ length self.old.text }
+        requires byte { byte ≡ get_or self.old.text end 0 }
+        ensures text { self.new.text ≡ self.old.text }
+        ensures place { self.new.place ≡ past_blanks self.old.text end }
+        ensures from { end ≤ self.new.place }
+    {
+        if byte == b' ' {
+            self.pass_to(end);
+            return;
+        }
+        self.place = end;
+        self.next = end;
+        self.byte = byte;
+    }
+
     /// The next byte, or `None` at the end. Nothing is taken.
     ///
     /// It says what can be found at the place, so that a caller need not try anything else.
@@ -216,8 +235,8 @@ impl<'a> Cursor<'a> {
         if !self.byte.is_ascii_digit() {
             return Number::Absent;
         }
-        let (value, count) = digits_from(&self.text[self.next..], self.byte);
-        self.pass_to(self.next + count);
+        let (value, end, byte) = digits_at(self.text, self.next, self.byte);
+        self.pass_from(end, byte);
         match i16::try_from(value) {
             Ok(value) => Number::Value(value),
             Err(_) => Number::TooBig,
@@ -235,7 +254,7 @@ impl<'a> Cursor<'a> {
         ensures left { bytes_left self.new ≤ bytes_left self.old }
         ensures absent { IsNone result → self.new.place ≡ self.old.place }
     {
-        if self.next == self.text.len() {
+        if self.next + 1 >= self.text.len() || !continues_word(self.text[self.next + 1]) {
             return None;
         }
         let (word, end) = table_word_at(self.text, self.next, table)?;

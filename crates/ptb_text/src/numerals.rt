@@ -1,6 +1,6 @@
 // This file passes blanks and reads numbers in a text of any length, by `number_in_front`.
 
-ghost use Rattle.std.specs.Prelude.{◌≡◌, ◌<◌, ◌≤◌, length, IsTrue, take, min, get_or};
+ghost use Rattle.std.specs.Prelude.{◌≡◌, ◌+◌, ◌-◌, ◌<◌, ◌≤◌, length, IsTrue, take, drop, min, get_or};
 ghost use Rattle.ptb_text.specs.Prelude.{prefix_len, is_digit, digits_value, past_blanks, is_over, number_at};
 
 use crate::word::Number;
@@ -8,10 +8,10 @@ use crate::word::Number;
 // stands for every number that is too big
 const TOO_BIG: u32 = 32768;
 
-/// Where the blanks at `place` end, and the byte there: 0 at the end of the text. Most places have no
-/// blanks, so that is found without a call.
+/// Where the blanks at `place` end, and the byte there: 0 at the end of the text. Most places have no blanks,
+/// so that is found before a loop.
 #[inline(always)]
-#[tactic(auto, using(crate::proofs::Blanks::past_blanks_stop, crate::proofs::Blanks::past_blanks_end))]
+#[tactic(auto, using(crate::proofs::Blanks::past_blanks_more, crate::proofs::Blanks::past_blanks_none))]
 pub(crate) fn after_blanks(text: &[u8], place: usize) -> (usize, u8)
     requires { place ≤ length text.now }
     ensures value { result.0 ≡ past_blanks text.now place }
@@ -19,61 +19,88 @@ pub(crate) fn after_blanks(text: &[u8], place: usize) -> (usize, u8)
     ensures within { result.0 ≤ length text.now }
     ensures byte { result.1 ≡ get_or text.now result.0 0 }
 {
-    if place == text.len() {
-        return (place, 0);
-    }
-    let byte = text[place];
+    let byte = byte_at(text, place);
     if byte != b' ' {
         return (place, byte);
     }
-    let end = blanks_end(text, place);
-    if end == text.len() {
-        return (end, 0);
-    }
-    (end, text[end])
+    after_more_blanks(text, place + 1)
 }
 
-// Where the blanks at `place` end.
-#[inline(never)]
-fn blanks_end(text: &[u8], place: usize) -> usize
-    requires { place ≤ length text.now }
-    ensures value { result ≡ past_blanks text.now place }
-    ensures from { place ≤ result }
-    ensures within { result ≤ length text.now }
-{
-    let mut at = place;
-    while at < text.len() && text[at] == b' ' {
-        at += 1;
-    }
-    at
-}
-
-/// What the digits in front of a text write, and how many they are, where the first byte is a digit: this
-/// one. No more is looked at for each digit of a number that isn't too big.
+// The byte at `place`: 0 at the end of the text.
 #[inline(always)]
-#[tactic(auto, using(crate::proofs::Digits::digits_more, crate::proofs::Digits::digits_stop, crate::proofs::Digits::digits_end, crate::proofs::Digits::digits_value_more))]
-pub(crate) fn digits_from(text: &[u8], first: u8) -> (u32, usize)
-    requires some { 0 < length text.now }
-    requires first { first ≡ get_or text.now 0 0 }
+fn byte_at(text: &[u8], place: usize) -> u8
+    requires { place ≤ length text.now }
+    ensures { result ≡ get_or text.now place 0 }
+{
+    if place == text.len() {
+        return 0;
+    }
+    text[place]
+}
+
+// The same as `after_blanks`, after a blank.
+#[inline(always)]
+#[tactic(auto, using(crate::proofs::Blanks::past_blanks_more, crate::proofs::Blanks::past_blanks_stop, crate::proofs::Blanks::past_blanks_end))]
+fn after_more_blanks(text: &[u8], place: usize) -> (usize, u8)
+    requires { place ≤ length text.now }
+    ensures value { result.0 ≡ past_blanks text.now place }
+    ensures from { place ≤ result.0 }
+    ensures within { result.0 ≤ length text.now }
+    ensures byte { result.1 ≡ get_or text.now result.0 0 }
+{
+    let mut end = place;
+    while end != text.len() {
+        let byte = text[end];
+        if byte != b' ' {
+            return (end, byte);
+        }
+        end += 1;
+    }
+    (end, 0)
+}
+
+/// What the digits at `place` write, where they end, and the byte there: 0 at the end of the text. The first
+/// of them is this byte. No more is looked at for each digit of a number that isn't too big.
+#[inline(always)]
+#[tactic(auto, using(crate::proofs::Digits::digits_more, crate::proofs::Digits::digits_stop, crate::proofs::Digits::digits_end, crate::proofs::Digits::digits_value_first, crate::proofs::Digits::digits_value_next))]
+pub(crate) fn digits_at(text: &[u8], place: usize, first: u8) -> (u32, usize, u8)
+    requires some { place < length text.now }
+    requires first { first ≡ get_or text.now place 0 }
     requires digit { IsTrue (is_digit first) }
-    ensures value { result.0 ≡ min (digits_value (take result.1 text.now)) TOO_BIG }
-    ensures count { result.1 ≡ prefix_len is_digit text.now }
-    ensures some { 0 < result.1 }
+    ensures value { result.0
+        ≡ min (digits_value (take (result.1 - place) (drop place text.now))) TOO_BIG }
+    ensures end { result.1 ≡ place + prefix_len is_digit (drop place text.now) }
+    ensures some { place < result.1 }
+    ensures byte { result.2 ≡ get_or text.now result.1 0 }
 {
     let mut value = u32::from(first - b'0');
-    let mut count = 1;
-    while count != text.len() {
-        let byte = text[count];
+    let mut end = place + 1;
+    while end != text.len() {
+        let byte = text[end];
         if !byte.is_ascii_digit() {
-            return (value, count);
+            return (value, end, byte);
         }
         value = value * 10 + u32::from(byte - b'0');
         if value >= TOO_BIG {
-            return leading_digits(text);
+            return digits_again(text, place);
         }
-        count += 1;
+        end += 1;
     }
-    (value, count)
+    (value, end, 0)
+}
+
+// The same for a number that is too big.
+#[inline(never)]
+fn digits_again(text: &[u8], place: usize) -> (u32, usize, u8)
+    requires { place ≤ length text.now }
+    ensures value { result.0
+        ≡ min (digits_value (take (result.1 - place) (drop place text.now))) TOO_BIG }
+    ensures end { result.1 ≡ place + prefix_len is_digit (drop place text.now) }
+    ensures byte { result.2 ≡ get_or text.now result.1 0 }
+{
+    let (value, count) = leading_digits(&text[place..]);
+    let end = place + count;
+    (value, end, byte_at(text, end))
 }
 
 // What the digits in front of a text write, and how many they are.

@@ -1,7 +1,7 @@
 // This file finds the words of the tables in a text.
 
 ghost use Rattle.std.specs.Prelude.{◌≡◌, ◌+◌, ◌<◌, ◌≤◌, [], ◌∷◌, length, IsTrue, IfSome};
-ghost use Rattle.std.specs.Prelude.{option_map, drop, not, ◌==◌};
+ghost use Rattle.std.specs.Prelude.{option_map, drop, not, ◌==◌, ◌||◌, nat_le};
 ghost use Rattle.std.specs.List.{list_all};
 ghost use Rattle.ptb_text.specs.WordSearch.{FindsWord};
 ghost use Rattle.ptb_text.specs.Words.{spelling_in_front, words, IsCommand, IsFunction, IsWordOf};
@@ -14,6 +14,15 @@ use crate::word::{Table, Word};
 
 // what follows a word that is cut
 const PERIOD: u8 = b'.';
+
+/// Whether the byte can be the second of a word: each has two letters at least, of which all but the
+/// first may be cut with a period. Most letters are variables, and the byte after them shows it.
+#[inline(always)]
+pub(crate) fn continues_word(byte: u8) -> bool
+    ensures { result ≡ (nat_le 65 byte || (byte == PERIOD)) }
+{
+    byte >= b'A' || byte == PERIOD
+}
 
 // The place after all the letters of a word, or after some of them from the front and a period.
 #[inline(always)]

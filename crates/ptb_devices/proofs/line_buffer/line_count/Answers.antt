@@ -1,10 +1,11 @@
 -- This file answers what is left to prove of `line_count`.
 use Rattle.std.proofs.Common.{arith}
-use Rattle.ptb_devices.proofs.CutLines.{KeepsUpTo_none, KeepsUpTo_more, KeepsUpTo_end}
+use Rattle.ptb_devices.proofs.CutLines.{KeepsUpTo_stay, KeepsUpTo_more, KeepsUpTo_end}
 use Rattle.ptb_devices.proofs.line_buffer.line_count.Goals as goal
 
 pub loop-count-init : goal.loop-count-init
-loop-count-init c = λ few. KeepsUpTo_none _
+loop-count-init c = λ few.
+    KeepsUpTo_stay _ _ c.staying_blocks-count.ensures.within few c.staying_blocks-count.ensures.stay
 
 pub loop-count-preserved : goal.loop-count-preserved
 loop-count-preserved c = λ few.

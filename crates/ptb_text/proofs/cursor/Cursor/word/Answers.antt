@@ -1,15 +1,24 @@
 -- This file proves which word is next.
-use Rattle.std.proofs.Math.Nat.{le_refl, le_of_lt}
+use Rattle.std.proofs.Common.{arith, refl, sym, ◌∙◌}
+use Rattle.std.proofs.Math.Nat.{le_of_lt}
 use Rattle.std.proofs.lemmas.Bool.{true≢false}
 use Rattle.ptb_text.proofs.FoundParts.{word_ahead}
-use Rattle.ptb_text.proofs.Words.{word_at_end}
+use Rattle.ptb_text.proofs.Words.{word_at_last, word_at_other}
 use Rattle.ptb_text.proofs.TakenTokens.{text_is, next_is, ahead_left, word_none, word_taken}
 use Rattle.ptb_text.proofs.cursor.Cursor.word.Goals as goal
+use Rattle.ptb_text.proofs.cursor.Cursor.word.Goals.{then-self-via-then-self}
+use Rattle.ptb_text.proofs.cursor.Cursor.word.Goals.{then-self-via-else-self+then-not-continues_word}
 
 pub returns-then-self-clause-value : goal.returns-then-self-clause-value
 returns-then-self-clause-value c =
-    let end = rw (text_is c.self.view_is, next_is c.self.view_is c.self.invariant.0) at c.if-self.true in
-    word_at_end _ _ _ (rw end (le_refl _))
+    let text = text_is c.self.view_is in
+    let next = next_is c.self.view_is c.self.invariant.0 in
+    elim c.then-self.branch [
+      | then-self-via-then-self w ↦ word_at_last _ _ _ (rw (text, next) at w.if-self.true)
+      | then-self-via-else-self+then-not-continues_word w ↦
+          word_at_other _ _ _ _ (omega (arith, rw (text, next) at w.if-self.false)) refl
+          (sym (rw (text, next) at w.continues_word.ensures) ∙ w.if-not-continues_word.true)
+    ]
 
 pub returns-in_err-word-clause-value : goal.returns-in_err-word-clause-value
 returns-in_err-word-clause-value c =
