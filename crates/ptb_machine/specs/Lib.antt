@@ -5,6 +5,7 @@ pub mod ShortForms
 pub mod Jumps
 pub mod KnownLoops
 pub mod Positions
+pub mod ShortSteps
 pub mod Play
 pub mod Questions
 pub mod Laws

@@ -38,6 +38,7 @@ pub use Rattle.ptb_machine.specs.SeededRuns.{IsDrawn, SeededLaws}
 pub use Rattle.ptb_machine.specs.ShortForms.{beginning, place_by, IsSet, IsSetElement, IsIf, IsLastIf, IsGosub}
 pub use Rattle.ptb_machine.specs.ShortForms.{IsReturn, IsEndTurn, IsShort, IsShortForm, LeadsToStatement, with_form}
 pub use Rattle.ptb_machine.specs.ShortForms.{viewed}
+pub use Rattle.ptb_machine.specs.ShortSteps.{DoesEntry, MovesOn, Reaches}
 pub use Rattle.ptb_machine.specs.Steps.{FitsProgram, IsStep, QuietTurns}
 pub use Rattle.ptb_machine.specs.Streams.{reads_of, writes_of}
 pub use Rattle.ptb_machine.specs.declared.program_code.CommandEntry.{CommandEntry}
