@@ -5,7 +5,7 @@ pub use Rattle.ptb_expr.specs.Store.{Cells}
 pub use Rattle.ptb_expr.specs.TreeSteps.{run}
 pub use Rattle.ptb_expr.specs.declared.short.ShortValue.{ShortValue}
 pub use Rattle.ptb_text.specs.Finding.{LiesAhead}
-pub use Rattle.ptb_text.specs.Statements.{Statements, StoredProgram}
+pub use Rattle.ptb_text.specs.Statements.{Statements, StoredProgram, size_of}
 pub use Rattle.ptb_text.specs.Words.{is_over}
 pub use Rattle.ptb_command.specs.Act.{ending_of, report_bytes, statement}
 pub use Rattle.ptb_command.specs.Code.{steps_at, Code}
