@@ -62,7 +62,6 @@ fn spelled_word(text: &[u8], place: usize, word: Word, letters: &[u8]) -> Option
 }
 
 // The first command word at `place`. Only words that begin with the byte there can be it.
-#[inline(always)]
 fn command_at(text: &[u8], place: usize) -> Option<(Word, usize)>
     requires { place < length text.now }
     ensures value { FindsWord (words Table.Commands) text.now place result }
