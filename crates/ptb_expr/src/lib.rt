@@ -6,9 +6,9 @@
 //! reads at the cursor, a value, a fault with its mark or a question. So is the result of
 //! `evaluate_in`, which is lent the room for the steps. What is evaluated often is read once, by
 //! `read_value` and `read_variable`; `run_steps` runs the steps, and `plain_value` runs those that
-//! ask nothing and have a value; `single_value` is for one step. A `ShortValue` has the value of a few steps without a loop over
-//! them. The crate passes on what `ptb_answers` has: the choosers, the rules of a run, and the forms
-//! of lists of answers.
+//! ask nothing and have a value; `single_value` is for one step. A `ShortValue` has the value of a
+//! few steps without a loop over them. The crate passes on what `ptb_answers` has: the choosers,
+//! the rules of a run, and the forms of lists of answers.
 #![tactic(auto)]
 
 mod eval;
