@@ -10,7 +10,7 @@ pub use Rattle.ptb_expr.specs.Evaluate.{variable_there, expression_there}
 pub use Rattle.ptb_expr.specs.Operators.{product_operator, sum_operator, comparison}
 pub use Rattle.ptb_expr.specs.Reading.{item_of}
 pub use Rattle.ptb_expr.specs.Spells.{Spells, Variable, Expr, Sum, First, Product, Factor, Paren}
-pub use Rattle.ptb_expr.specs.Starts.{BeginsFactor, IsBefore, sign, start_room}
+pub use Rattle.ptb_expr.specs.Starts.{BeginsFactor, IsBefore, start_room}
 pub use Rattle.ptb_expr.specs.Stops.{Gives, Ends, IfFull}
 pub use Rattle.ptb_expr.specs.Store.{map_ok}
 pub use Rattle.ptb_expr.specs.Translation.{AreStepsOf, IsMalformed, IsVariableRead, IsVariable}

@@ -1,15 +1,13 @@
 -- This file defines what stands before a part of the grammar, or alone in its place.
 --     IsBefore t unary inner outer i j     between i and j stands what makes `outer` of the part `inner` after it
---     sign minus                           what is done with the first product of a sum
---     signed minus operator mark xs        the steps xs of a product of a sum, with the operator or the sign before it
---     signed_room minus operator           how many steps that takes at most
+--     signed sign operator mark xs         the steps xs of a product of a sum, with the operator or the sign before it
+--     signed_room sign operator            how many steps that takes at most
 --     BeginsFactor t start i j             between i and j stands what a factor begins with
 --     start_room start                     how much room is needed for it
-use Rattle.std.specs.Prelude.{ℕ, List, ◌++◌, Bool, true, false, Option, Some, None}
+use Rattle.std.specs.Prelude.{ℕ, List, ◌++◌, Option, Some, None}
 use Rattle.ptb_expr.specs.declared.operator.Operator.{Operator}
 use Rattle.ptb_expr.specs.declared.step.Step.{Step}
 use Rattle.ptb_expr.specs.declared.step.Unary.{Unary}
-use Rattle.ptb_expr.specs.declared.step.Unary.TheVariants.{Itself, Minus}
 use Rattle.ptb_expr.specs.declared.fault.FaultKind.TheVariants.{How}
 use Rattle.ptb_expr.specs.declared.reader.Start.{Start}
 use Rattle.ptb_expr.specs.declared.reader.Start.TheVariants as starts
@@ -23,18 +21,14 @@ abbrev pub IsBefore : List ℕ → Unary → Part → Part → ℕ → ℕ → T
 IsBefore t unary inner outer i j =
     (r : Reading Tree) → Spells t inner j r → Spells t outer i (node_over (node_of unary) j r)
 
-abbrev pub sign : Bool → Unary
-sign true = Minus
-sign false = Itself
-
 -- the steps of a product after the operator before it; the first has none, and the sign is before it
-abbrev pub signed : Bool → Option Operator → ℕ → List Step → List Step
-signed minus None m xs = xs ++ unary_steps (sign minus) m
-signed minus (Some op) m xs = with_operator op m xs
+abbrev pub signed : Unary → Option Operator → ℕ → List Step → List Step
+signed sign None m xs = xs ++ unary_steps sign m
+signed sign (Some op) m xs = with_operator op m xs
 
-abbrev pub signed_room : Bool → Option Operator → ℕ
-signed_room minus None = room_of (sign minus)
-signed_room minus (Some op) = 1
+abbrev pub signed_room : Unary → Option Operator → ℕ
+signed_room sign None = room_of sign
+signed_room sign (Some op) = 1
 
 abbrev pub BeginsFactor : List ℕ → Start → ℕ → ℕ → Type 0
 BeginsFactor t (starts.Number v) i j = Spells t Factor i (Whole (Num v) j)
