@@ -1,13 +1,11 @@
 -- This file proves which results a step can have.
 -- Main lemma: `result_goes`.
 use Rattle.std.proofs.Common.{◌≡◌, ◌↔◌, ◌∙◌, ℕ, Bool, true, false, List, Option, Some, None, Result}
-use Rattle.std.proofs.Common.{Ok, Err, is_err, inl, inr, refl, sym, ap, subst}
+use Rattle.std.proofs.Common.{Ok, Err, is_err, inl, refl, sym, ap, subst}
 use Rattle.ptb_expr.specs.declared.fault.Fault.{Fault}
 use Rattle.ptb_expr.specs.declared.fault.FaultKind.{FaultKind}
-use Rattle.ptb_expr.specs.declared.fault.FaultKind.TheVariants as kinds
 use Rattle.ptb_answers.specs.declared.pause.Pause.TheVariants as pauses
 use Rattle.ptb_command.specs.declared.ending.Ending.{Ending}
-use Rattle.ptb_command.specs.declared.ending.Ending.TheVariants as endings
 use Rattle.ptb_machine.specs.declared.fault.RunFault.{RunFault}
 use Rattle.ptb_machine.specs.declared.fault.RunFault.TheVariants as faults
 use Rattle.ptb_text.specs.declared.device_fault.DeviceFault.{DeviceFault}

@@ -1,7 +1,7 @@
 -- This file proves the result of a run: its steps, one after the other.
 -- Main lemmas: `run_over` and `run_on`.
 use Rattle.std.proofs.Common.{◌≡◌, inr, ℕ, zero, suc, ◌+◌, ◌-◌, ◌<◌, ◌≤◌, length, Bool, true, false}
-use Rattle.std.proofs.Common.{List, [], ◌++◌, Option, Some, None, IfSome, Result, Ok, Err, ℤ, pos}
+use Rattle.std.proofs.Common.{List, [], ◌++◌, Option, Some, None, IfSome, Ok, Err, ℤ, pos}
 use Rattle.std.proofs.Common.{◌≤ℤ◌, refl, sym, ap, subst, ◌∙◌, append-nil, append_assoc, arith}
 use Rattle.std.proofs.Math.Path.{fun_ext}
 use Rattle.std.proofs.lemmas.Bool.{false≢true}

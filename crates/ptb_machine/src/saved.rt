@@ -1,6 +1,8 @@
 // This file has the saved form of a machine: where a run is, in little memory.
 
-ghost use Rattle.std.specs.Prelude.{◌≡◌, ◌↔◌, true, IsOk, IsTrue, OnOk, OnErr};
+ghost use Rattle.std.specs.Prelude.{◌≡◌, ◌↔◌, [], None, true, pos, IsOk, IsTrue, OnOk, OnErr};
+ghost use Rattle.ptb_expr.specs.Store.{empty_cells};
+ghost use Rattle.ptb_command.specs.Configuration.{configuration};
 
 use crate::machine::Machine;
 use ptb_command::SavedRegisters;
@@ -28,9 +30,11 @@ impl Model for SavedMachine {
 }
 
 impl SavedMachine {
-    /// A place without memory, at which no run is.
+    /// A place without memory, at which no run is: no command is next or was begun, nothing is open or
+    /// was shown, and the run is over.
     pub fn new(alloc: Global) -> SavedMachine
-        ensures { result.spent ≡ true }
+        ensures { result ≡ configuration
+            (record { place = None; store = empty_cells (pos 0); stack = [] }) 0 true true }
     {
         SavedMachine {
             registers: SavedRegisters::new(alloc),
