@@ -1,7 +1,7 @@
 // This file has the writer of many reports, one after the other, which keeps the text of the last one.
 
-ghost use Rattle.std.specs.Prelude.{◌≡◌, ◌==◌, ◌+◌, ◌<◌, ◌≤◌, [], ◌++◌, length, take, codes, decimal, None, Some};
-ghost use Rattle.std.specs.Prelude.{IfErr, OnOk, OnErr, IsTrue, IsFalse, if◌then◌else◌, ℤ, Option};
+ghost use Rattle.std.specs.Prelude.{◌≡◌, ◌==◌, ◌+◌, ◌<◌, ◌≤◌, [], ◌∷◌, ◌++◌, length, take, codes, decimal};
+ghost use Rattle.std.specs.Prelude.{IfErr, OnOk, OnErr, IsTrue, IsFalse, if◌then◌else◌, ℤ, Option, None, Some};
 ghost use Rattle.ptb_explore.specs.Prelude.{signed_decimal, Appends, TakesSome, HasFailed, in_form, item_text};
 ghost use Rattle.ptb_explore.specs.Prelude.{asked_items, field, report_ending, report_text, text_of, begun, item_of};
 ghost use Rattle.ptb_explore.specs.Prelude.{items_of, AreEnds, BeginsWith};
@@ -196,10 +196,20 @@ fn add_items(
         let Asked { answer, bound } = asked[k];
         let bound = bound_in(form, bound);
         add_item(text, k, answer, bound);
-        let end = text.len();
-        kept.push(KeptItem { answer, bound, end });
+        keep_item(kept, text, answer, bound);
     }
     true
+}
+
+// Keeps the item that the text ends with.
+#[inline(always)]
+fn keep_item(kept: &mut KeptItems, text: &Text, answer: i16, bound: Option<i16>)
+    requires { length kept.old < 256 }
+    ensures { kept.new ≡ kept.old
+        ++ (record { answer = answer; bound = bound; end = length text.now }) ∷ [] }
+{
+    let end = text.len();
+    kept.push(KeptItem { answer, bound, end });
 }
 
 // Whether there is room for what comes after the answers.

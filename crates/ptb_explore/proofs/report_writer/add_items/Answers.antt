@@ -24,7 +24,7 @@ loop-k-preserved c =
     let m : Marked = item_for c.args.form asked k in
     let within : k < length items = omega (arith, c.loop-k-test.true, length-asked_items c.args.form asked) in
     let next : m ≡ get_or items k m = sym (asked_at c.args.form asked k _ m c.loop-k-test.true) in
-    let same : item_of (record { answer = _; bound = c.bound_in-bound.result; end = c.len-end.result }) ≡ m =
+    let same : item_of (record { answer = _; bound = c.bound_in-bound.result; end = length c.add_item.new.text }) ≡ m =
     is_in_form c.args.form (question_at asked k).answer _ (question_at asked k).bound _ c.bound_in-bound.result
     (search rules) (search rules) c.bound_in-bound.ensures in
     let text = text_added items k m within next c.loop-k.text c.add_item.new.text c.loop-k.invariant.text
@@ -32,15 +32,15 @@ loop-k-preserved c =
     same) in
     record {
       text = text;
-      items = items_kept items k m within next c.loop-k.kept c.push.new.self _ c.push.ensures same
+      items = items_kept items k m within next c.loop-k.kept c.keep_item.new.kept _ c.keep_item.ensures same
           c.loop-k.invariant.items;
-      ends = ends_kept items k m within next c.loop-k.kept c.push.new.self _ c.push.ensures same
-          c.loop-k.invariant.items c.loop-k.invariant.ends (c.len-end.ensures.value ∙ ap length text);
+      ends = ends_kept items k m within next c.loop-k.kept c.keep_item.new.kept _ c.keep_item.ensures same
+          c.loop-k.invariant.items c.loop-k.invariant.ends (ap length text);
     }
 
 -- there is room for one item more
-pub push-requires : goal.push-requires
-push-requires c =
+pub keep_item-requires : goal.keep_item-requires
+keep_item-requires c =
     let items = asked_items c.args.form c.args.asked.now in
     omega (
       arith,
