@@ -15,8 +15,8 @@ use Rattle.ptb_answers.specs.declared.form.Form.{Form}
 use Rattle.ptb_answers.specs.declared.form.Form.TheVariants.{One, Two}
 use Rattle.ptb_answers.specs.declared.form.Marked.{Marked}
 use Rattle.ptb_answers.specs.AnswerText.{in_form, item_text, more_spelling, spelling}
-use Rattle.ptb_explore.specs.declared.report_writer.KeptItem.{KeptItem}
-use Rattle.ptb_explore.specs.Begun.{joined, begun, item_of, items_of, AreEnds, BeginsWith, KeepsItem}
+use Rattle.ptb_explore.specs.declared.kept_items.KeptItem.{KeptItem}
+use Rattle.ptb_explore.specs.Begun.{joined, begun, item_of, items_of, AreEnds, BeginsWith}
 use Rattle.ptb_explore.specs.ReportText.{field, report_ending, report_text}
 use Rattle.ptb_explore.proofs.ReportText.{comma_and}
 
@@ -175,41 +175,21 @@ module _ (items : List Marked) (k : ℕ) (m : Marked) (within : k < length items
       grown ∙ ap (λ z. z ++ ((if k == 0 then [] else codes ",") ++ item_text m)) is
       ∙ sym (begun_more (take k items) m k (length-take-le k items (omega (arith, within)))) ∙ ap begun (sym added)
 
-  module _ (kept new : List KeptItem) (e : KeptItem) (keeps : KeepsItem k e kept new) (same : item_of e ≡ m)
-      (is : items_of kept ≡ take (length kept) items) (most : length kept ≤ k) where
-    pub items_kept : items_of new ≡ take (length new) items
-    items_kept = at keeps
-      where
-        at : KeepsItem k e kept new → items_of new ≡ take (length new) items
-        at (inl one) =
-            ap items_of one.1 ∙ items_push kept e ∙ ap (λ x. x ++ item_of e ∷ []) (is ∙ ap (λ n. take n items) one.0)
-            ∙ ap (λ x. take k items ++ x ∷ []) same ∙ sym added
-            ∙ ap (λ n. take n items) (omega (arith, one.0, ap length one.1, length-append kept (e ∷ [])))
-        at (inr none) = ap items_of none ∙ is ∙ ap (λ (z : List KeptItem). take (length z) items) (sym none)
-
-    pub most_kept : length new ≤ k + 1
-    most_kept = at keeps
-      where
-        at : KeepsItem k e kept new → length new ≤ k + 1
-        at (inl one) = omega (arith, one.0, ap length one.1, length-append kept (e ∷ []))
-        at (inr none) = omega (arith, most, ap length none)
+  module _ (kept new : List KeptItem) (e : KeptItem) (grown : new ≡ kept ++ e ∷ []) (same : item_of e ≡ m)
+      (is : items_of kept ≡ take k items) where
+    pub items_kept : items_of new ≡ take (k + 1) items
+    items_kept =
+        ap items_of grown ∙ items_push kept e ∙ ap (λ x. x ++ item_of e ∷ []) is
+        ∙ ap (λ x. take k items ++ x ∷ []) same ∙ sym added
 
     pub ends_kept : AreEnds kept → e.end ≡ length (begun (take (k + 1) items)) → AreEnds new
-    ends_kept h end = at keeps
-      where
-        at : KeepsItem k e kept new → AreEnds new
-        at (inl one) =
-            let all : take (k + 1) items ≡ items_of kept ++ item_of e ∷ [] =
-            added ∙ ap (λ x. take k items ++ x ∷ []) (sym same)
-            ∙ ap (λ x. x ++ item_of e ∷ []) (sym (is ∙ ap (λ n. take n items) one.0)) in
-            subst AreEnds (sym one.1) (ends_push kept e h (end ∙ ap (λ z. length (begun z)) all))
-        at (inr none) = subst AreEnds (sym none) h
+    ends_kept h end =
+        let all : take (k + 1) items ≡ items_of kept ++ item_of e ∷ [] =
+        added ∙ ap (λ x. take k items ++ x ∷ []) (sym same) ∙ ap (λ x. x ++ item_of e ∷ []) (sym is) in
+        subst AreEnds (sym grown) (ends_push kept e h (end ∙ ap (λ z. length (begun z)) all))
 
 -- a text of the first k items begins with those that are kept
 pub begins_kept : (items : List Marked) (k : ℕ) (text : List ℕ) (kept : List KeptItem) → text ≡ begun (take k items)
-    → items_of kept ≡ take (length kept) items → length kept ≤ k → BeginsWith text (begun (items_of kept))
-begins_kept items k text kept is of most =
-    let whole : BeginsWith text (begun (take k items)) =
-    subst (λ z. BeginsWith z (begun (take k items))) (sym is) (take-length (begun (take k items))) in
-    let first = begins_with_first text (take k items) (length kept) whole in
-    subst (λ z. BeginsWith text (begun z)) (take_take (length kept) k items most ∙ sym of) first
+    → items_of kept ≡ take k items → BeginsWith text (begun (items_of kept))
+begins_kept items k text kept is of =
+    subst (λ z. BeginsWith z (begun (items_of kept))) (ap begun of ∙ sym is) (take-length (begun (items_of kept)))

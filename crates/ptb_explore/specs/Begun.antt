@@ -4,11 +4,10 @@
 --     items_of kept            the items that are kept
 --     AreEnds kept             each item has the number of bytes that the header has up to its end
 --     BeginsWith text front    the front is a prefix of the text
---     KeepsItem k x old new    an item is kept after k others, or none is
-use Rattle.std.specs.Prelude.{◌≡◌, ℕ, ◌+◌, ◌<◌, ◌⊎◌, List, [], ◌∷◌, ◌++◌, codes, get_or, length, map, take}
+use Rattle.std.specs.Prelude.{◌≡◌, ℕ, ◌+◌, ◌<◌, List, [], ◌∷◌, ◌++◌, codes, get_or, length, map, take}
 use Rattle.ptb_answers.specs.declared.form.Marked.{Marked}
 use Rattle.ptb_answers.specs.AnswerText.{spelling}
-use Rattle.ptb_explore.specs.declared.report_writer.KeptItem.{KeptItem}
+use Rattle.ptb_explore.specs.declared.kept_items.KeptItem.{KeptItem}
 
 -- items joined by commas, of which there may be none
 abbrev pub joined : List Marked → List ℕ
@@ -30,6 +29,3 @@ AreEnds kept = (k : ℕ) (x : KeptItem) → k < length kept
 
 abbrev pub BeginsWith : List ℕ → List ℕ → Type 0
 BeginsWith text front = take (length front) text ≡ front
-
-abbrev pub KeepsItem : ℕ → KeptItem → List KeptItem → List KeptItem → Type 0
-KeepsItem k x old new = ((length old ≡ k) × (new ≡ old ++ x ∷ [])) ⊎ (new ≡ old)

@@ -16,7 +16,7 @@ pub use Rattle.ptb_text.specs.Device.{HasFailed, TakesSome}
 pub use Rattle.ptb_text.specs.Statements.{StoredProgram}
 pub use Rattle.ptb_explore.specs.Beginnings.{beginning_line, split_play, stopped, FindsBeginning, IsSameSearch, MovesTo}
 pub use Rattle.ptb_explore.specs.Beginnings.{BeginningLaws}
-pub use Rattle.ptb_explore.specs.Begun.{begun, item_of, items_of, AreEnds, BeginsWith, KeepsItem}
+pub use Rattle.ptb_explore.specs.Begun.{begun, item_of, items_of, AreEnds, BeginsWith}
 pub use Rattle.ptb_explore.specs.Chances.{chance_of_all}
 pub use Rattle.ptb_explore.specs.Copies.{Agrees, AreCopies, PlaysOn, kept_runs, AreBeginnings, more_played, play_limit}
 pub use Rattle.ptb_explore.specs.Copies.{WentBack, last_steps}

@@ -8,6 +8,7 @@ ghost use Rattle.ptb_explore.specs.Copies.{KeepsCopy, GoesBackTo, IsSameCopy, wi
 use arrayvec::ArrayVec;
 use ptb_machine::{Machine, Player};
 use std::alloc::{AllocError, Global};
+use std::mem;
 
 /// How many copies are kept at most.
 pub(crate) const MOST_COPIES: usize = 64;
@@ -60,6 +61,7 @@ pub(crate) struct Progress {
 }
 
 // Copies a machine, into the room of another where there is one.
+#[inline(always)]
 fn copied(
     alloc: Global,
     room: Option<Box<Machine>>,
@@ -104,6 +106,8 @@ fn made_first(alloc: Global, player: &Player) -> Result<Box<Machine>, AllocError
 
 impl KeptCopy {
     // A copy of it, which takes the room of another machine where there is one.
+    // Inlined, as what calls it for each run is: a result of five words is handed over in memory.
+    #[inline(always)]
     fn copy(&self, alloc: Global, room: Option<Box<Machine>>) -> Result<KeptCopy, AllocError>
         ensures { IfOk result (IsSameCopy self.now) }
     {
@@ -123,15 +127,30 @@ impl KeptCopy {
 /// The copies of a run that are kept, at most [`MOST_COPIES`].
 ///
 /// Machines that no copy needs are held for their room. With them there are at most
-/// [`MOST_COPIES`] machines, since a new one is made only where there is no such room.
+/// [`MOST_COPIES`] machines and the last one, since a new one is made only where there is no such room.
 #[derive(Drop)]
 pub(crate) struct Copies {
     /// Those that are kept, the one with the fewest answers first.
     pub(crate) kept: ArrayVec<KeptCopy, MOST_COPIES>,
     /// Machines that no copy needs.
     pub(crate) spare: ArrayVec<Option<Box<Machine>>, MOST_COPIES>,
+    /// The machine of the run before, whose room the next run takes first: to add it to the spare ones
+    /// and take it from there would cost more.
+    last: Option<Box<Machine>>,
     /// How many answers the runs took.
     length: RunLength,
+}
+
+// The room of the last machine, or of a spare one, if there is one.
+#[inline(always)]
+fn free_room(
+    last: &mut Option<Box<Machine>>,
+    spare: &mut ArrayVec<Option<Box<Machine>>, MOST_COPIES>,
+) -> Option<Box<Machine>> {
+    match mem::replace(last, None) {
+        Some(machine) => Some(machine),
+        None => spare.pop().flatten(),
+    }
 }
 
 impl Copies {
@@ -142,6 +161,7 @@ impl Copies {
         Copies {
             kept: ArrayVec::new(),
             spare: ArrayVec::new(),
+            last: None,
             length: RunLength::Unknown,
         }
     }
@@ -184,7 +204,7 @@ impl Copies {
             Represents player.now.lines b.value (first_state player.now input choose)) }
         ensures unspent { IfOk result (λ b. b.value.spent ≡ false) }
     {
-        match self.spare.pop().flatten() {
+        match free_room(&mut self.last, &mut self.spare) {
             Some(mut machine) => {
                 player.restart(alloc, &mut machine)?;
                 Ok(machine)
@@ -260,7 +280,7 @@ impl Copies {
                 return Ok(None);
             };
             if newest.taken <= most {
-                let room = self.spare.pop().flatten();
+                let room = free_room(&mut self.last, &mut self.spare);
                 return Ok(Some(newest.copy(alloc, room)?));
             }
             let Some(dropped) = self.kept.pop() else {
@@ -270,13 +290,11 @@ impl Copies {
         }
     }
 
-    /// Takes the machine of a run that is over, for its room, if there are fewer than can be kept.
+    /// Takes the machine of a run that is over, for its room.
     pub(crate) fn give_back(&mut self, machine: Box<Machine>)
         ensures { self.new.kept ≡ self.old.kept }
     {
-        if self.kept.len() + self.spare.len() < MOST_COPIES {
-            let _ = self.spare.try_push(Some(machine));
-        }
+        self.last = Some(machine);
     }
 
     /// Drops all copies, and gives their room back.
@@ -285,5 +303,6 @@ impl Copies {
     {
         self.kept.clear();
         self.spare.clear();
+        self.last = None;
     }
 }

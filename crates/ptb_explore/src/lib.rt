@@ -18,6 +18,7 @@ mod copies;
 mod explorer;
 mod fault;
 mod form;
+mod kept_items;
 mod laws;
 mod listing;
 mod mismatch;

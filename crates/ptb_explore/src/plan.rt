@@ -46,6 +46,8 @@ fn last_below(asked: &[Asked], floor: usize) -> Option<usize>
 /// # Errors
 ///
 /// Where the plan is refused memory; never where no run is left.
+// Inlined, so that its result isn't handed over in memory for each run.
+#[inline(always)]
 pub(crate) fn plan_next(
     position: Position,
     under: &[Marked],

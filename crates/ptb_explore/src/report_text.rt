@@ -104,6 +104,8 @@ pub(crate) struct Parts<'a> {
 }
 
 /// Writes the report of a run piece by piece, whatever its length.
+// Not inlined, so that the code for short reports needs no room for pieces.
+#[inline(never)]
 pub(crate) fn write_in_pieces<W: Write>(out: &mut W, report: &Parts) -> Result<(), DeviceFault>
     ensures { WritesText (text_of report.now) (W.contents out.old) (W.contents out.new)
         (W.failures out.old) (W.failures out.new) result }

@@ -1,22 +1,19 @@
 // This file has the writer of many reports, one after the other, which keeps the text of the last one.
 
-ghost use Rattle.std.specs.Prelude.{◌≡◌, ◌==◌, ◌+◌, ◌<◌, ◌≤◌, [], ◌++◌, length, take, codes, decimal, None, Some};
-ghost use Rattle.std.specs.Prelude.{IfErr, OnOk, OnErr, IsTrue, IsFalse, if◌then◌else◌, ℤ, Option};
+ghost use Rattle.std.specs.Prelude.{◌≡◌, ◌==◌, ◌+◌, ◌<◌, ◌≤◌, [], ◌∷◌, ◌++◌, length, take, codes, decimal};
+ghost use Rattle.std.specs.Prelude.{IfErr, OnOk, OnErr, IsTrue, IsFalse, if◌then◌else◌, ℤ, Option, None, Some};
 ghost use Rattle.ptb_explore.specs.Prelude.{signed_decimal, Appends, TakesSome, HasFailed, in_form, item_text};
 ghost use Rattle.ptb_explore.specs.Prelude.{asked_items, field, report_ending, report_text, text_of, begun, item_of};
-ghost use Rattle.ptb_explore.specs.Prelude.{items_of, AreEnds, BeginsWith, KeepsItem};
+ghost use Rattle.ptb_explore.specs.Prelude.{items_of, AreEnds, BeginsWith};
 
+use crate::kept_items::{KeptItem, KeptItems, MOST_ITEMS};
 use crate::report_text::{Parts, write_in_pieces};
-use arrayvec::ArrayVec;
 use itoa::{Buffer, Integer};
 use ptb_answers::{Asked, Form};
 use ptb_text::{ByteBuffer, DeviceFault, Write};
 
 // How many bytes of a report are gathered at most.
 const MOST_BYTES: usize = 4096;
-
-// How many items are kept at most.
-const MOST_ITEMS: usize = 256;
 
 // What comes before the answers.
 const START: &[u8] = b"RUN ";
@@ -27,22 +24,8 @@ const ITEM_ROOM: usize = 14;
 // What comes after the answers has no more bytes than this, apart from its word and the transcript.
 const NUMBERS_ROOM: usize = 48;
 
-// The items that a text begins with.
-type Kept = ArrayVec<KeptItem, 256>;
-
 // The text of a report, on the stack, since a report takes no memory.
 type Text = ByteBuffer<MOST_BYTES>;
-
-/// An item of a header.
-#[derive(Clone, Copy, Default)]
-pub(crate) struct KeptItem {
-    /// The answer.
-    pub(crate) answer: i16,
-    /// Its bound, where the header has it.
-    pub(crate) bound: Option<i16>,
-    /// How many bytes the header has up to the end of the item.
-    pub(crate) end: usize,
-}
 
 // The bound of an answer as a form has it.
 #[inline(always)]
@@ -102,13 +85,13 @@ fn end_of(kept: &[KeptItem], count: usize) -> usize
 
 // Cuts the items and their text, so that so many items are left.
 #[inline(always)]
-fn cut(kept: &mut Kept, text: &mut Text, count: usize)
-    requires begins { BeginsWith text.old (begun (items_of kept.old.items)) }
-    requires ends { AreEnds kept.old.items }
-    requires within { count ≤ length kept.old.items }
-    ensures items { items_of kept.new.items ≡ take count (items_of kept.old.items) }
-    ensures ends { AreEnds kept.new.items }
-    ensures text { text.new ≡ begun (take count (items_of kept.old.items)) }
+fn cut(kept: &mut KeptItems, text: &mut Text, count: usize)
+    requires begins { BeginsWith text.old (begun (items_of kept.old)) }
+    requires ends { AreEnds kept.old }
+    requires within { count ≤ length kept.old }
+    ensures items { items_of kept.new ≡ take count (items_of kept.old) }
+    ensures ends { AreEnds kept.new }
+    ensures text { text.new ≡ begun (take count (items_of kept.old)) }
 {
     let end = end_of(kept.as_slice(), count);
     kept.truncate(count);
@@ -186,16 +169,23 @@ fn add_item(text: &mut Text, place: usize, answer: i16, bound: Option<i16>)
     }
 }
 
-// Adds the answers from a place on, as a form has them, and keeps their items while there is room for
-// them. Says whether there was room for their text.
+// Adds the answers from a place on, as a form has them, and keeps their items. Says whether there was
+// room for their text.
 #[inline(always)]
-fn add_items(kept: &mut Kept, text: &mut Text, form: Form, asked: &[Asked], first: usize) -> bool
+fn add_items(
+    kept: &mut KeptItems,
+    text: &mut Text,
+    form: Form,
+    asked: &[Asked],
+    first: usize,
+) -> bool
+    requires few { length asked.now ≤ 256 }
     requires within { first ≤ length asked.now }
-    requires items { items_of kept.old.items ≡ take first (asked_items form asked.now) }
-    requires ends { AreEnds kept.old.items }
+    requires items { items_of kept.old ≡ take first (asked_items form asked.now) }
+    requires ends { AreEnds kept.old }
     requires text { text.old ≡ begun (take first (asked_items form asked.now)) }
-    ensures begins { BeginsWith text.new (begun (items_of kept.new.items)) }
-    ensures ends { AreEnds kept.new.items }
+    ensures begins { BeginsWith text.new (begun (items_of kept.new)) }
+    ensures ends { AreEnds kept.new }
     ensures all { IsTrue result
         → text.new ≡ begun (asked_items form asked.now) }
 {
@@ -206,20 +196,20 @@ fn add_items(kept: &mut Kept, text: &mut Text, form: Form, asked: &[Asked], firs
         let Asked { answer, bound } = asked[k];
         let bound = bound_in(form, bound);
         add_item(text, k, answer, bound);
-        keep_item(kept, k, answer, bound, text.len());
+        keep_item(kept, text, answer, bound);
     }
     true
 }
 
-// Keeps the item at a place, if those before it are kept and there is room.
+// Keeps the item that the text ends with.
 #[inline(always)]
-fn keep_item(kept: &mut Kept, place: usize, answer: i16, bound: Option<i16>, end: usize)
-    ensures { KeepsItem place (record { answer = answer; bound = bound; end = end })
-        kept.old.items kept.new.items }
+fn keep_item(kept: &mut KeptItems, text: &Text, answer: i16, bound: Option<i16>)
+    requires { length kept.old < 256 }
+    ensures { kept.new ≡ kept.old
+        ++ (record { answer = answer; bound = bound; end = length text.now }) ∷ [] }
 {
-    if kept.len() == place {
-        let _ = kept.try_push(KeptItem { answer, bound, end });
-    }
+    let end = text.len();
+    kept.push(KeptItem { answer, bound, end });
 }
 
 // Whether there is room for what comes after the answers.
@@ -249,6 +239,23 @@ fn add_ending(text: &mut Text, word: &[u8], steps: u32, transcript: &[u8]) -> bo
     true
 }
 
+// Adds the word of an ending. Most often it has three letters: a call that copies so few takes longer.
+#[inline(always)]
+fn add_word(text: &mut Text, word: &[u8])
+    requires { length text.old + length word.now ≤ 4096 }
+    ensures { text.new ≡ text.old ++ word.now }
+{
+    match word {
+        [a, b, c] => {
+            let (first, second, third) = (*a, *b, *c);
+            text.push(first);
+            text.push(second);
+            text.push(third);
+        }
+        _ => text.append(word),
+    }
+}
+
 // Adds the word of an ending, the number of steps and the size of what was shown.
 #[inline(always)]
 fn add_figures(text: &mut Text, word: &[u8], steps: u32, size: usize)
@@ -258,7 +265,7 @@ fn add_figures(text: &mut Text, word: &[u8], steps: u32, size: usize)
     ensures length { length text.new ≤ length text.old + length word.now + 47 }
 {
     text.push(b' ');
-    text.append(word);
+    add_word(text, word);
     text.push(b' ');
     add_count(text, steps as usize);
     text.push(b' ');
@@ -273,11 +280,11 @@ fn add_figures(text: &mut Text, word: &[u8], steps: u32, size: usize)
 #[derive(Drop)]
 pub struct ReportWriter {
     // The first items of the header.
-    kept: Kept,
+    kept: KeptItems,
     // The text of the report, or a prefix of it.
     text: Text,
-    ghost begins: { BeginsWith text (begun (items_of kept.items)) },
-    ghost ends: { AreEnds kept.items },
+    ghost begins: { BeginsWith text (begun (items_of kept)) },
+    ghost ends: { AreEnds kept },
 }
 
 impl ReportWriter {
@@ -286,7 +293,7 @@ impl ReportWriter {
         let mut text = Text::new();
         text.append(START);
         ReportWriter {
-            kept: Kept::new(),
+            kept: KeptItems::new(),
             text,
         }
     }
@@ -317,6 +324,7 @@ impl ReportWriter {
     /// # Errors
     ///
     /// [`DeviceFault::Write`] where the writer failed. A prefix of the report may have been taken then.
+    #[inline(always)]
     pub fn write<W: Write>(
         &mut self,
         out: &mut W,
@@ -344,6 +352,8 @@ impl ReportWriter {
         if self.gather(&report) {
             return out.write_all(self.text.as_slice());
         }
-        write_in_pieces(out, &report)
+        // copied, so that it lies in memory for long reports alone
+        let pieces = report;
+        write_in_pieces(out, &pieces)
     }
 }

@@ -69,6 +69,7 @@ impl<'a> Runner<'a> {
 
     // Goes back to the newest copy whose answers are among the first that the plan and the report have
     // in common, or to the beginning of a run, and gives the machine that is there.
+    #[inline(always)]
     fn go_back(
         &mut self,
         common: usize,
@@ -126,6 +127,7 @@ impl<'a> Runner<'a> {
     /// # Errors
     ///
     /// Where a growth was refused memory.
+    #[inline(always)]
     pub(crate) fn play_plan(&mut self, common: usize) -> Result<(), AllocError>
         requires { Resumes self.old common }
         ensures same { IsSameGame self.old self.new }

@@ -1,6 +1,6 @@
 -- This file answers that what is left begins with the items that are left.
 use Rattle.std.proofs.Common.{arith, ◌≡◌, ◌∙◌, ℕ, List, ap, sym, subst, take, length}
-use Rattle.ptb_explore.specs.declared.report_writer.KeptItem.{KeptItem}
+use Rattle.ptb_explore.specs.declared.kept_items.KeptItem.{KeptItem}
 use Rattle.ptb_explore.specs.Begun.{AreEnds, begun, items_of}
 use Rattle.ptb_explore.proofs.HeaderPrefixes.{begins_with_first, begins_within, ends_cut, items_cut}
 use Rattle.ptb_explore.proofs.report_writer.cut.Goals as goal
@@ -14,24 +14,24 @@ end_is kept slice count end is ends all =
 
 pub cut-requires : goal.cut-requires
 cut-requires c =
-    let kept = c.args.kept.now.items in
-    let end = end_is kept c.as_slice.result.now c.args.count c.end_of-end.result c.as_slice.ensures.value
+    let kept = c.args.kept.now in
+    let end = end_is kept c.as_slice.result.now c.args.count c.end_of-end.result c.as_slice.ensures
     c.end_of-end.ensures.end c.requires.ends in
     let within = begins_within c.args.text.now (begun (take c.args.count (items_of kept)))
     (begins_with_first c.args.text.now (items_of kept) c.args.count c.requires.begins) in
     omega (arith, end, within)
 
 pub returns-clause-items : goal.returns-clause-items
-returns-clause-items c = ap items_of c.truncate.ensures.items ∙ items_cut c.args.kept.now.items c.args.count
+returns-clause-items c = ap items_of c.truncate.ensures ∙ items_cut c.args.kept.now c.args.count
 
 pub returns-clause-ends : goal.returns-clause-ends
-returns-clause-ends c = subst AreEnds (sym c.truncate.ensures.items)
-    (ends_cut c.args.kept.now.items c.args.count c.requires.ends)
+returns-clause-ends c = subst AreEnds (sym c.truncate.ensures)
+    (ends_cut c.args.kept.now c.args.count c.requires.ends)
 
 pub returns-clause-text : goal.returns-clause-text
 returns-clause-text c =
-    let kept = c.args.kept.now.items in
-    let end = end_is kept c.as_slice.result.now c.args.count c.end_of-end.result c.as_slice.ensures.value
+    let kept = c.args.kept.now in
+    let end = end_is kept c.as_slice.result.now c.args.count c.end_of-end.result c.as_slice.ensures
     c.end_of-end.ensures.end c.requires.ends in
     c.cut.ensures ∙ ap (λ n. take n c.args.text.now) end
     ∙ begins_with_first c.args.text.now (items_of kept) c.args.count c.requires.begins

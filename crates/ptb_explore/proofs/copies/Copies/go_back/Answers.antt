@@ -30,10 +30,10 @@ returns-then-newest-most c =
 
 -- the newest copy is dropped, and the older ones are left
 dropped : (c : In-Some-pop)
-    → GoesBack c.args.most c.args.self.now.kept.items c.pop-in-loop-newest.new.self.items
+    → GoesBack c.args.most c.args.self.now.kept.items c.pop.new.self.items
 dropped c =
     let ks = c.loop-newest.self.kept.items in
-    newest_dropped c.args.most c.args.self.now.kept.items ks c.pop-in-loop-newest.new.self.items c.in-Some.newest.now
+    newest_dropped c.args.most c.args.self.now.kept.items ks c.pop.new.self.items c.in-Some.newest.now
     c.in-Some-pop.dropped c.loop-newest.invariant
     (last_newest ks c.as_slice.result.now c.last.result c.as_slice.ensures.value c.last.ensures.value
     ∙ ap option_copied c.in-Some.is)

@@ -9,7 +9,7 @@ use Rattle.ptb_explore.proofs.report_writer.ReportWriter.gather.Goals as goal
 pub invariant_of-self : goal.invariant_of-self
 invariant_of-self c = record {
   begins = begins_longer c.add_ending.new.text c.add_items-listed.new.text (begun
-      (items_of c.add_items-listed.new.kept.items)) c.add_ending.ensures.longer c.add_items-listed.ensures.begins;
+      (items_of c.add_items-listed.new.kept)) c.add_ending.ensures.longer c.add_items-listed.ensures.begins;
   ends = c.add_items-listed.ensures.ends;
 }
 
