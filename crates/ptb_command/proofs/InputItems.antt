@@ -39,7 +39,7 @@ use Rattle.ptb_command.specs.Act.{item_action}
 use Rattle.ptb_command.specs.Effects.{action_state}
 use Rattle.ptb_devices.specs.Sources.{given_lines}
 use Rattle.ptb_command.specs.Devices.{Devices, Exchanges, no_exchange, with_choices, Refusal}
-use Rattle.ptb_command.specs.Devices.{Unanswered, Unread, NoLine, refused_answers, refused_by}
+use Rattle.ptb_command.specs.Devices.{Unread, NoLine, refused_answers}
 use Rattle.ptb_command.specs.Devices.{HasBroken}
 use Rattle.ptb_command.specs.Traces.{Trace, trace, with_due, still_due, after, once_shown, RefinesPart}
 use Rattle.ptb_command.specs.Stops.{stop_of, stop_of_device, LacksLine, WantsLine, DeviceFails, Stops}

@@ -1,6 +1,6 @@
 -- This file proves the result of showing bytes.
 -- Main lemma: `shown`.
-use Rattle.std.proofs.Common.{◌≡◌, ℕ, suc, ◌+◌, ◌-◌, ◌≤◌, ◌<◌, Bool, List, [], ◌∷◌, ◌++◌, length}
+use Rattle.std.proofs.Common.{◌≡◌, ℕ, zero, suc, ◌+◌, ◌-◌, ◌≤◌, ◌<◌, Bool, List, [], ◌∷◌, ◌++◌, length}
 use Rattle.std.proofs.Common.{take, drop, Result, Err, refl, sym, ap, subst, ◌∙◌, append-nil}
 use Rattle.std.proofs.Common.{append_assoc, arith, length-append, take-append-drop, inl, ℤ, pos}
 use Rattle.std.proofs.Common.{negsuc, Ok, FitsSigned, w16}
@@ -8,8 +8,9 @@ use native.Mathlib.Decide.{dec_lt}
 use Rattle.std.proofs.lemmas.Bool.{le-leb, lt-leb}
 use Rattle.std.proofs.Math.Dec.{eqb-suc-zero}
 use Rattle.std.proofs.lemmas.List.{get_or-append-add, take-replicate, length-replicate, replicate-append-replicate}
+use Rattle.std.proofs.lemmas.List.{drop-take, take_rest}
 use Rattle.std.proofs.lemmas.Fmt.{length-decimal-le}
-use Rattle.std.proofs.Math.Seq.{drop-append_seam}
+use Rattle.std.proofs.Math.Seq.{drop-append_seam, take-append_seam, take-append-add}
 use Rattle.std.specs.Prelude.{◌==◌, ◌||◌, if◌then◌else◌, slice_index, IsErrOf, IsTrue, unsigned_abs, replicate}
 use Rattle.ptb_text.specs.Device.{HasFailed, TakesSome}
 use Rattle.ptb_expr.specs.Store.{Cells}
@@ -131,15 +132,51 @@ short_decimal (pos n) h = let fits = h.sfits in
 short_decimal (negsuc n) h = let fits = h.sfits in
     omega (arith, length-decimal-le 5 (suc n) (omega arith) (omega arith) (omega arith))
 
--- the text s ends where 16 bytes end that were blanks
+pub take_shorter : {X : Type 0} (i j : ℕ) (s : List X) → i ≤ j → take i (take j s) ≡ take i s
+take_shorter zero j s l = refl
+take_shorter (suc i) zero s l = absurd (omega arith)
+take_shorter (suc i) (suc j) [] l = refl
+take_shorter (suc i) (suc j) (x ∷ s) l = ap (λ r. x ∷ r) (take_shorter i j s (omega arith))
+
+-- of a block that is added, so many bytes are kept
+pub few_kept : (old bytes : List ℕ) (from count : ℕ) → count ≤ 16
+    → take (length old + count) (old ++ take (from + 16 - from) (drop from bytes)) ≡ old ++ take count (drop from bytes)
+few_kept old bytes from count few =
+    take-append-add old (take (from + 16 - from) (drop from bytes)) count
+    ∙ ap (λ (x : List ℕ). old ++ x) (take_shorter count (from + 16 - from) (drop from bytes) (omega (arith, few)))
+
+-- the first block of bytes and the last, over it as far as both have the same
+pub ends_joined : (old bytes : List ℕ) (size last : ℕ) → last ≤ size
+    → take (length old + last) (old ++ take size bytes) ++ take (length bytes - last) (drop last bytes) ≡ old ++ bytes
+ends_joined old bytes size last within =
+    ap (λ (x : List ℕ). x ++ take (length bytes - last) (drop last bytes))
+    (take-append-add old (take size bytes) last ∙ ap (λ (x : List ℕ). old ++ x) (take_shorter last size bytes within))
+    ∙ append_assoc old (take last bytes) (take (length bytes - last) (drop last bytes))
+    ∙ ap (λ (x : List ℕ). old ++ (take last bytes ++ x)) (take_rest bytes last)
+    ∙ ap (λ (x : List ℕ). old ++ x) (take-append-drop last bytes)
+
+-- the part of a block that begins at k
+pub block_end : (text : List ℕ) (k : ℕ) → k ≤ 16 → take (16 - k) (drop k text) ≡ drop k (take 16 text)
+block_end text k within =
+    sym (drop-take k (16 - k) text)
+    ∙ ap (λ (n : ℕ). drop k (take n text)) (let all : k + (16 - k) ≡ 16 = omega (arith, within) in all)
+
+-- the text s ends where 16 bytes end that were blanks, as those after them are
 pub after_blanks : (s text : List ℕ) (start : ℕ) → start + length s ≡ 16
-    → drop start text ≡ s ++ drop 16 (replicate 16 32) → take start text ≡ take start (replicate 16 32)
-    → text ≡ replicate start 32 ++ s
+    → drop start text ≡ s ++ drop 16 (replicate 32 32) → take start text ≡ take start (replicate 32 32)
+    → take 16 text ≡ replicate start 32 ++ s
 after_blanks s text start ends written same =
-    let short : start ≤ 16 = omega (arith, ends) in
+    let short : start ≤ 32 = omega (arith, ends) in
+    let whole : text ≡ (replicate start 32 ++ s) ++ drop 16 (replicate 32 32) =
     sym (take-append-drop start text)
-    ∙ ap (λ (x : List ℕ). x ++ drop start text) (same ∙ take-replicate start 16 32 short)
-    ∙ ap (λ (x : List ℕ). replicate start 32 ++ x) (written ∙ append-nil s)
+    ∙ ap (λ (x : List ℕ). x ++ drop start text) (same ∙ take-replicate start 32 32 short)
+    ∙ ap (λ (x : List ℕ). replicate start 32 ++ x) written
+    ∙ sym (append_assoc (replicate start 32) s (drop 16 (replicate 32 32))) in
+    let size : length (replicate start 32 ++ s) ≡ 16 =
+    length-append (replicate start 32) s ∙ ap (λ (n : ℕ). n + length s) (length-replicate start 32) ∙ ends in
+    ap (λ (x : List ℕ). take 16 x) whole
+    ∙ ap (λ (n : ℕ). take n ((replicate start 32 ++ s) ++ drop 16 (replicate 32 32))) (sym size)
+    ∙ take-append_seam (replicate start 32 ++ s) (drop 16 (replicate 32 32))
 
 -- of the blanks before a text the first k go, and some of 239 blanks come before the others
 pub padded_parts : (s text : List ℕ) (start k before w : ℕ) → text ≡ replicate start 32 ++ s → k ≤ start

@@ -1,6 +1,7 @@
 // This file gathers what a command shows, so that the screen gets it at once.
 
 ghost use Rattle.std.specs.Prelude.{◌≡◌, ◌↔◌, ◌≤◌, ◌+◌, ◌++◌, ◌∷◌, List, ℕ, [], length, IsTrue, IsFalse};
+ghost use Rattle.std.specs.Prelude.{drop, take};
 ghost use Rattle.ptb_command.specs.Prelude.{Cells, goes_on, show_action, Devices, screen_state, with_screen};
 ghost use Rattle.ptb_command.specs.Prelude.{nothing_refused, trace, with_due, Comes};
 
@@ -12,6 +13,9 @@ use std::marker::Model;
 
 /// How many bytes are gathered at most. An item of PRINT shows no more than 255.
 pub const PENDING_LIMIT: usize = 512;
+
+/// How many bytes are copied at once, where few are gathered.
+pub(crate) const BLOCK: usize = 16;
 
 /// What a command is to show, and hasn't shown yet. It takes no memory. Contracts see its bytes.
 #[derive(Drop)]
@@ -59,27 +63,26 @@ impl PendingOutput {
         requires { length self.old + length bytes.now ≤ PENDING_LIMIT }
         ensures { self.new ≡ self.old ++ bytes.now }
     {
-        // Each is read before one is written, so that the compiler can move them together.
-        match bytes {
-            [a, b] => self.push_two(*a, *b),
-            [a, b, c] => {
-                let last = *c;
-                self.push_two(*a, *b);
-                self.buffer.push(last);
-            }
-            [a, b, c, d] => self.push_four(*a, *b, *c, *d),
-            [a, b, c, d, e] => {
-                let last = *e;
-                self.push_four(*a, *b, *c, *d);
-                self.buffer.push(last);
-            }
-            [a, b, c, d, e, f] => {
-                let (fifth, last) = (*e, *f);
-                self.push_four(*a, *b, *c, *d);
-                self.push_two(fifth, last);
-            }
+        match bytes.len() {
+            2..=4 => self.append_ends(bytes, 2),
+            5..=8 => self.append_ends(bytes, 4),
             _ => self.buffer.append(bytes),
         }
+    }
+
+    // Takes bytes for all of which there is room: a block of this size at their beginning, and one at their
+    // end, over it as far as both have the same bytes. Where the size is known, no call copies a block.
+    #[inline(always)]
+    fn append_ends(&mut self, bytes: &[u8], size: usize)
+        requires room { length self.old + length bytes.now ≤ PENDING_LIMIT }
+        requires blocks { (size ≤ length bytes.now) × (length bytes.now ≤ size + size) }
+        ensures { self.new ≡ self.old ++ bytes.now }
+    {
+        let last = bytes.len() - size;
+        let end = self.buffer.len() + last;
+        self.buffer.append(&bytes[..size]);
+        self.buffer.cut(end);
+        self.buffer.append(&bytes[last..]);
     }
 
     /// Takes bytes for all of which there is room, however many: it is short where it is inlined.
@@ -91,6 +94,20 @@ impl PendingOutput {
         self.buffer.append(bytes);
     }
 
+    /// Takes so many bytes of these, from this place on. A whole block is copied, which costs less than a
+    /// call that copies the right number.
+    #[inline(always)]
+    pub(crate) fn append_few(&mut self, bytes: &[u8], from: usize, count: usize)
+        requires room { length self.old + BLOCK ≤ PENDING_LIMIT }
+        requires block { from + BLOCK ≤ length bytes.now }
+        requires few { count ≤ BLOCK }
+        ensures { self.new ≡ self.old ++ take count (drop from bytes.now) }
+    {
+        let end = self.buffer.len() + count;
+        self.buffer.append(&bytes[from..from + BLOCK]);
+        self.buffer.cut(end);
+    }
+
     /// Takes two bytes.
     #[inline(always)]
     pub(crate) fn push_two(&mut self, a: u8, b: u8)
@@ -99,16 +116,6 @@ impl PendingOutput {
     {
         self.buffer.push(a);
         self.buffer.push(b);
-    }
-
-    // Takes four bytes.
-    #[inline(always)]
-    fn push_four(&mut self, a: u8, b: u8, c: u8, d: u8)
-        requires { length self.old + 4 ≤ PENDING_LIMIT }
-        ensures { self.new ≡ self.old ++ a ∷ b ∷ c ∷ d ∷ [] }
-    {
-        self.push_two(a, b);
-        self.push_two(c, d);
     }
 
     /// Takes what was gathered away.

@@ -78,6 +78,7 @@ impl<'a, R: Read> LineSource for ReaderLines<'a, R> {
         Ok(Some(self.buffer.kept()))
     }
 
+    #[inline(always)]
     fn take_ready(&mut self) -> Option<&[u8]> {
         if !self.buffer.is_open() {
             return None;

@@ -1,14 +1,14 @@
 // This file shows values and texts, as PRINT does, by `show_expression`, and has what a command gathers.
 
-ghost use Rattle.std.specs.Prelude.{◌≡◌, ◌∷◌, [], ℕ, ℤ, List};
+ghost use Rattle.std.specs.Prelude.{◌≡◌, ◌∷◌, [], ℕ, ℤ, List, Ok, IsFalse, IsTrue};
 ghost use Rattle.ptb_command.specs.Prelude.{Cells, Tree, first_width, padded_decimal, parts_action, goes_on, show};
 ghost use Rattle.ptb_command.specs.Prelude.{AreStepsAt, FailsWithoutValue, IsIn, IsLiteralIn, bytes_in, literal_bytes};
 ghost use Rattle.ptb_command.specs.Prelude.{Part, Show, nothing_refused, refused_answers, due_trace, SameDevices};
-ghost use Rattle.ptb_command.specs.Prelude.{Comes};
+ghost use Rattle.ptb_command.specs.Prelude.{Comes, width_of};
 
 use crate::command_io::CommandIo;
-use crate::execution::decimals::{TEXT, gather_decimals, write_decimal};
-use crate::execution::values::shown_value;
+use crate::execution::decimals::{gather_value, room_for};
+use crate::execution::values::long_value;
 use crate::operation::{Expression, Literal, Range};
 use crate::pending_output::PendingOutput;
 use crate::stop::Stop;
@@ -53,6 +53,22 @@ impl Output {
         self.pending.clear();
         self.width = FIRST_WIDTH;
     }
+
+    /// Takes a value for the width, if it is one. Whether it is.
+    #[inline(always)]
+    pub(crate) fn try_width(&mut self, value: i16) -> bool
+        ensures set { IsTrue result → (width_of value ≡ Ok self.new.width)
+            × (self.new ≡ record self.old { width = self.new.width }) }
+        ensures same { IsFalse result → self.new ≡ self.old }
+    {
+        match u8::try_from(value) {
+            Ok(width) => {
+                self.width = width;
+                true
+            }
+            Err(_) => false,
+        }
+    }
 }
 
 /// The bytes of a text in a range; none where the range ends after the text.
@@ -75,7 +91,6 @@ pub(crate) fn literal_bytes(text: &[u8], literal: Literal) -> &[u8]
 }
 
 // Shows a value with blanks before it up to the width.
-#[inline(always)]
 fn show_value<C: Chooser, S: Screen, L: LineSource>(
     io: &mut CommandIo<'_, C, S, L>,
     pending: &mut PendingOutput,
@@ -90,15 +105,12 @@ fn show_value<C: Chooser, S: Screen, L: LineSource>(
         (show (padded_decimal width value)) goes_on result }
     ensures same { SameDevices io.old io.new }
 {
-    let mut text = [b' '; TEXT];
-    let start = write_decimal(value, &mut text, TEXT);
-    io.make_room(pending, usize::from(width).max(TEXT - start))?;
-    gather_decimals(pending, width, &text, start);
+    io.make_room(pending, room_for(width))?;
+    gather_value(pending, width, value);
     Ok(())
 }
 
 /// Shows the value of an expression.
-#[inline(always)]
 pub(crate) fn show_expression<C: Chooser, S: Screen, L: LineSource>(
     steps: &[Step],
     expression: Expression,
@@ -116,6 +128,6 @@ pub(crate) fn show_expression<C: Chooser, S: Screen, L: LineSource>(
     ensures valued { FailsWithoutValue steps.now expression result }
     ensures same { SameDevices io.old io.new }
 {
-    let value = shown_value(steps, expression, store, io.chooser)?;
+    let value = long_value(steps, expression, store, io.chooser)?;
     show_value(io, &mut output.pending, output.width, value)
 }

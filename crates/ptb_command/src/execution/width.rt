@@ -5,7 +5,7 @@ ghost use Rattle.ptb_command.specs.Prelude.{Tree, or_fault, parts_action, width_
 ghost use Rattle.ptb_command.specs.Prelude.{FailsWithoutValue, Part, Width, Devices, nothing_refused, refused_answers};
 ghost use Rattle.ptb_command.specs.Prelude.{with_choices, Comes, Trace, trace, with_due};
 
-use crate::execution::values::short_value;
+use crate::execution::values::long_value;
 use crate::operation::Expression;
 use crate::stop::{Stop, fault};
 use ptb_answers::Chooser;
@@ -23,7 +23,6 @@ fn width_of(value: i16, mark: usize) -> Result<u8, Stop>
 }
 
 /// The value of an expression as a width; `mark` is the mark of a value that is no width.
-#[inline(always)]
 pub(crate) fn new_width<C: Chooser>(
     steps: &[Step],
     expression: Expression,
@@ -41,6 +40,6 @@ pub(crate) fn new_width<C: Chooser>(
         (λ width. parts_action rest width operands) result }
     ensures valued { FailsWithoutValue steps.now expression result }
 {
-    let value = short_value(steps, expression, store, chooser)?;
+    let value = long_value(steps, expression, store, chooser)?;
     width_of(value, usize::from(mark))
 }

@@ -20,7 +20,7 @@ returns g c = record {
   comes = λ d fresh due x rest w operands at.
       let same : to_z w16 (of_z w16 c.in_ok-value.value) ≡ c.in_ok-value.value = search rules in
       let n = with_due due
-      (trace (with_choices (g.C.Chooser.choices c.short_value.new.chooser) d) fresh c.args.store.now) in
+      (trace (with_choices (g.C.Chooser.choices c.long_value.new.chooser) d) fresh c.args.store.now) in
       width_comes _ _ n rest w operands n x c.args.mark c.in_ok-value.value _ same
       (c.in_ok-value.ensures.comes x d fresh due at)
       c.width_of.result (rw c.from.ensures at (c.width_of.ensures n));
