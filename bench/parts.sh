@@ -6,11 +6,11 @@ root=$(dirname "$(readlink -f "$0")")/..
 room=$(mktemp -d)
 trap 'rm -rf "$room"' EXIT
 mkdir -p "$room/crates/parts/src"
-for crate in words answers text expr; do cp -a "$root/crates/ptb_$crate" "$room/crates/"; done
+for crate in answers text expr; do cp -a "$root/crates/ptb_$crate" "$room/crates/"; done
 rm -rf "$room"/crates/ptb_*/must-fail
 cp "$root/HANDLES" "$room/"
 {
-    grep -E '^ptb_(words|answers|text|expr):' "$root/crates.txt"
+    grep -E '^ptb_(answers|text|expr):' "$root/crates.txt"
     echo 'parts: ptb_expr ptb_text'
 } >"$room/crates.txt"
 git init -q "$room"
