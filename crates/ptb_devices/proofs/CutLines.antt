@@ -4,9 +4,10 @@ use Rattle.std.proofs.Common.{◌≡◌, ℕ, suc, zero, ◌+◌, ◌-◌, ◌�
 use Rattle.std.proofs.Common.{◌∷◌, ◌++◌, length, map, filter, take, drop, get_or, Option, Some}
 use Rattle.std.proofs.Common.{None, refl, sym, ap, subst, ◌∙◌, append_assoc, append-nil, arith}
 use Rattle.std.proofs.Common.{length-append, length-drop, length-take, slice_index, slice_range, add-one, inl, inr}
-use Rattle.std.specs.Prelude.{◌==◌, if◌then◌else◌}
+use Rattle.std.proofs.Common.{Fits, w8}
+use Rattle.std.specs.Prelude.{◌==◌, ◌&&◌, ◌||◌, if◌then◌else◌}
 use Rattle.std.proofs.Math.Seq.{take-append_seam, take-length, take-suc}
-use Rattle.std.proofs.lemmas.Bool.{eqb-true, ne_eqb, eq-eqb, cases_lt}
+use Rattle.std.proofs.lemmas.Bool.{agree_below, agree_below_at, and_parts, eqb-true, ne_eqb, eq-eqb, cases_lt}
 use Rattle.std.proofs.lemmas.List.{map-append, take_all, take-append-drop, get_or-take, get_or-drop}
 use Rattle.std.proofs.lemmas.List.Elements.{filter-append}
 use Rattle.std.proofs.lemmas.List.Folds.{list_all-append}
@@ -171,28 +172,27 @@ KeepsUpTo_more bytes i inside room stays before =
 pub StayUpTo_none : (bytes : List ℕ) → StayUpTo bytes 0
 StayUpTo_none bytes i h = absurd (omega (arith, h))
 
-pub StayUpTo_more : (bytes : List ℕ) (n : ℕ) → StayUpTo bytes n
-    → cleaned_byte (get_or bytes n 0) ≡ get_or bytes n 0 ∷ [] → StayUpTo bytes (n + 1)
-StayUpTo_more bytes n before one i h = elim (cases_lt i n) [
-  | inl low ↦ before i low
-  | inr high ↦
-      let same : n ≡ i = omega (arith, high, h) in
-      subst (λ (k : ℕ). cleaned_byte (get_or bytes k 0) ≡ get_or bytes k 0 ∷ []) same one
-]
+-- a byte that the cleaning leaves as it is, as a test
+abbrev pub is_left : ℕ → Bool
+is_left b = (tab_as_space b == b) && is_printable b
 
--- and then those of a block
-pub StayUpTo_block : (bytes : List ℕ) (n k : ℕ) → StayUpTo bytes n → StayUpTo (slice_range bytes n (n + k)) k
-    → StayUpTo bytes (n + k)
-StayUpTo_block bytes n k before block i h = elim (cases_lt i n) [
+pub is_left-stays : (b : ℕ) → is_left b ≡ true → cleaned_byte b ≡ b ∷ []
+is_left-stays b e =
+    let parts = and_parts (tab_as_space b == b) (is_printable b) e in
+    ap (λ (k : ℕ). filter is_printable (k ∷ [])) (eqb-true (tab_as_space b) b parts.0)
+    ∙ ap (λ (t : Bool). if t then b ∷ [] else []) parts.1
+
+-- and then those of a block before the first that a test stops at
+pub StayUpTo_run : (stops : ℕ → Bool) (bytes : List ℕ) (n k : ℕ)
+    → agree_below (λ b. stops b || is_left b) (λ _. true) 256 ≡ true → ((i : ℕ) → Fits w8 (get_or bytes i 0))
+    → ((i : ℕ) → n ≤ i → i < n + k → stops (get_or bytes i 0) ≡ false)
+    → StayUpTo bytes n → StayUpTo bytes (n + k)
+StayUpTo_run stops bytes n k all fits passed before i h = elim (cases_lt i n) [
   | inl low ↦ before i low
   | inr high ↦
-      let inside : i - n < k = omega (arith, high, h) in
-      let there : i - n < (n + k) - n = omega (arith, inside) in
-      let place : n + (i - n) ≡ i = omega (arith, high) in
-      let byte : get_or (slice_range bytes n (n + k)) (i - n) 0 ≡ get_or bytes i 0 =
-      get_or-take ((n + k) - n) (drop n bytes) (i - n) 0 there ∙ get_or-drop n bytes (i - n) 0
-      ∙ ap (λ (m : ℕ). get_or bytes m 0) place in
-      subst (λ (b : ℕ). cleaned_byte b ≡ b ∷ []) byte (block (i - n) inside)
+      let byte = get_or bytes i 0 in
+      is_left-stays byte (sym (ap (λ (t : Bool). t || is_left byte) (passed i high h))
+      ∙ agree_below_at (λ b. stops b || is_left b) (λ _. true) 256 byte all (fits i).fits)
 ]
 
 -- the first bytes stay

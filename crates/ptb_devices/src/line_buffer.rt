@@ -1,7 +1,8 @@
 // This file holds what has come of an input whose lines are asked for one by one.
 
 ghost use Rattle.std.specs.Prelude.{◌≡◌, ◌↔◌, ◌+◌, ◌<◌, ◌≤◌, true, false, [], length, slice_range, take, IsSome};
-ghost use Rattle.std.specs.Prelude.{IsTrue, IfOk, IfErr, IfSome, MatchBool};
+ghost use Rattle.std.specs.Prelude.{◌==◌, if◌then◌else◌, IsTrue, IfOk, IfErr, IfSome, MatchBool};
+ghost use Rattle.std.specs.Int.{w64, trailing_zeros};
 ghost use Rattle.ptb_devices.specs.Prelude.{sem, Rests, line_limit, kept_bytes, IsLine, Open, fresh_input, fault_at};
 ghost use Rattle.ptb_devices.specs.Prelude.{open_piece, input_now, CutsLine, CutsAll, TakesWhole, ReadsOn, Refuses};
 ghost use Rattle.ptb_devices.specs.CutLines.{StayUpTo};
@@ -11,9 +12,10 @@ use crate::cutter::{LINE_LIMIT, LineCutter, stays};
 use crate::whole_input::{BUFFER_SIZE, INPUT_LIMIT};
 use ptb_text::{Allowance, DeviceFault, Piece, Read};
 use std::marker::Model;
+use std::simd::prelude::*;
 
 // How many bytes are looked at together for the end of a line.
-const BLOCK: usize = 8;
+const BLOCK: usize = 16;
 
 /// How an input continues.
 #[derive(Clone, Copy)]
@@ -227,30 +229,46 @@ fn line_count(bytes: &[u8]) -> Option<usize>
     None
 }
 
-/// How many bytes in front of these are in blocks whose bytes the cleaning leaves as they are, all.
+/// How many bytes in front of these the cleaning leaves as they are, as far as whole blocks tell.
 #[inline(always)]
 fn staying_blocks(bytes: &[u8]) -> usize
     ensures stay { StayUpTo bytes.now result }
     ensures within { result ≤ length bytes.now }
 {
     let mut count = 0;
-    while count + BLOCK <= bytes.len() && all_stay(between(bytes, count, count + BLOCK)) {
-        count += BLOCK;
+    while count + BLOCK <= bytes.len() {
+        let more = staying_in_block(bytes, count);
+        count += more;
+        if more < BLOCK {
+            break;
+        }
     }
     count
 }
 
-/// Whether the cleaning leaves all these bytes as they are. Each is looked at, which a processor does at
-/// once for all of a block.
+/// How many bytes the cleaning leaves as they are, of the block from a place on, before one that it
+/// doesn't. A processor looks at all of them at once.
 #[inline(always)]
-fn all_stay(bytes: &[u8]) -> bool
-    ensures { IsTrue result → StayUpTo bytes.now (length bytes.now) }
+fn staying_in_block(bytes: &[u8], from: usize) -> usize
+    requires { from + BLOCK ≤ length bytes.now }
+    ensures stay { StayUpTo bytes.now from → StayUpTo bytes.now (from + result) }
+    ensures within { result ≤ BLOCK }
 {
-    let mut all = true;
-    for byte in bytes {
-        all &= stays(*byte);
+    let block = u8x16::from_slice(&bytes[from..]);
+    let others = block.simd_lt(u8x16::splat(b' ')) | block.simd_ge(u8x16::splat(0x7f));
+    first_set(others.to_bitmask())
+}
+
+/// How many bits of the mask of a block come before the first that is set.
+#[inline(always)]
+fn first_set(mask: u64) -> usize
+    ensures { result ≡ (if mask == 0 then BLOCK else trailing_zeros w64 mask) }
+{
+    if mask == 0 {
+        BLOCK
+    } else {
+        mask.trailing_zeros() as usize
     }
-    all
 }
 
 /// The bytes between two places.

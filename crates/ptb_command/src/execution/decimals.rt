@@ -7,12 +7,15 @@ ghost use Rattle.ptb_command.specs.Prelude.{padded_decimal, signed_decimal};
 use crate::pending_output::{BLOCK, PENDING_LIMIT, PendingOutput};
 use itoa::write_digits;
 
+/// How many bytes a value is shown in, at most.
+pub(crate) const WIDTH_LIMIT: usize = 255;
+
 /// The blanks before these bytes, at most.
 static BLANKS: [u8; 239] = [b' '; 239];
 
-// Writes the decimals of a value, which end at a place. Where they begin.
+/// Writes the decimals of a value, which end at a place. Where they begin.
 #[inline(always)]
-fn write_decimal(value: i16, bytes: &mut [u8], to: usize) -> usize
+pub(crate) fn write_decimal(value: i16, bytes: &mut [u8], to: usize) -> usize
     requires { (length (signed_decimal value) ≤ to) × (to ≤ length bytes.old) }
     ensures start { result + length (signed_decimal value) ≡ to }
     ensures written { drop result bytes.new ≡ signed_decimal value ++ drop to bytes.old }
@@ -26,11 +29,10 @@ fn write_decimal(value: i16, bytes: &mut [u8], to: usize) -> usize
     start - 1
 }
 
-/// How much room the decimals of a value are given, with blanks before them up to the width.
-pub(crate) fn room_for(width: u8) -> usize
+// How much room the decimals of a value are given, with blanks before them up to the width.
+fn room_for(width: u8) -> usize
     ensures width { width ≤ result }
     ensures block { BLOCK ≤ result }
-    ensures most { result ≤ 255 }
 {
     usize::from(width).max(BLOCK)
 }
@@ -52,9 +54,9 @@ fn gather_decimals(pending: &mut PendingOutput, width: u8, text: &[u8], start: u
     pending.append_few(text, from, BLOCK - from);
 }
 
-/// Gathers the decimals of a value, with blanks before them up to the width.
+// Gathers the decimals of a value, with blanks before them up to the width.
 #[inline(always)]
-pub(crate) fn gather_value(pending: &mut PendingOutput, width: u8, value: i16)
+fn gather_value(pending: &mut PendingOutput, width: u8, value: i16)
     requires blanks { length pending.old + width ≤ PENDING_LIMIT }
     requires block { length pending.old + BLOCK ≤ PENDING_LIMIT }
     ensures { pending.new ≡ pending.old ++ padded_decimal width value }
@@ -64,7 +66,8 @@ pub(crate) fn gather_value(pending: &mut PendingOutput, width: u8, value: i16)
     gather_decimals(pending, width, &text, start);
 }
 
-/// The same, if there is room. Whether there was.
+/// Gathers the decimals of a value, with blanks before them up to the width, if there is room for a block
+/// where the decimals and the blanks end. Whether there was.
 #[inline(always)]
 pub(crate) fn try_value(pending: &mut PendingOutput, width: u8, value: i16) -> bool
     ensures gathered { IsTrue result → pending.new ≡ pending.old ++ padded_decimal width value }

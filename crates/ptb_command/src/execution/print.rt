@@ -7,7 +7,7 @@ ghost use Rattle.ptb_command.specs.Prelude.{Part, Show, nothing_refused, refused
 ghost use Rattle.ptb_command.specs.Prelude.{Comes, width_of};
 
 use crate::command_io::CommandIo;
-use crate::execution::decimals::{gather_value, room_for};
+use crate::execution::decimals::{WIDTH_LIMIT, write_decimal};
 use crate::execution::values::long_value;
 use crate::operation::{Expression, Literal, Range};
 use crate::pending_output::PendingOutput;
@@ -105,9 +105,10 @@ fn show_value<C: Chooser, S: Screen, L: LineSource>(
         (show (padded_decimal width value)) goes_on result }
     ensures same { SameDevices io.old io.new }
 {
-    io.make_room(pending, room_for(width))?;
-    gather_value(pending, width, value);
-    Ok(())
+    let mut text = [b' '; WIDTH_LIMIT];
+    let start = write_decimal(value, &mut text, WIDTH_LIMIT);
+    let from = start.min(WIDTH_LIMIT - usize::from(width));
+    io.show(pending, &text[from..])
 }
 
 /// Shows the value of an expression.
