@@ -89,6 +89,9 @@ impl Stack {
         ensures { self.new ≡ other.now }
     {
         self.opens.clear();
+        if other.is_empty() {
+            return;
+        }
         let _ = self.opens.try_extend_from_slice(other.opens.as_slice());
     }
 

@@ -78,7 +78,7 @@ pub(crate) fn plan_next(
                     answer: answer + 1,
                     bound,
                 };
-                trial.restart(&asked[..i], raised)?;
+                trial.restart(&asked[..i + 1], i, raised)?;
                 Ok(Some(i))
             }
         },

@@ -54,21 +54,28 @@ impl Recorder {
         }
     }
 
-    /// Plans these answers and the raised one after them. None was given yet.
+    /// Plans these answers, the last of which, at this place, is replaced by the raised one. None was
+    /// given yet.
     ///
     /// # Errors
     ///
-    /// Where the plan is refused memory; a prefix of it is planned then.
-    pub(crate) fn restart(&mut self, front: &[Asked], raised: Asked) -> Result<(), AllocError>
-        ensures asked { OnOk result (self.new.asked.items ≡ front.now ++ raised ∷ []) }
-        ensures planned { OnOk result (self.new.planned ≡ length front.now + 1) }
+    /// Where the plan is refused memory; nothing is changed then.
+    pub(crate) fn restart(
+        &mut self,
+        list: &[Asked],
+        last: usize,
+        raised: Asked,
+    ) -> Result<(), AllocError>
+        requires { length list.now ≡ last + 1 }
+        ensures asked { OnOk result (self.new.asked.items ≡ take last list.now ++ raised ∷ []) }
+        ensures planned { OnOk result (self.new.planned ≡ last + 1) }
         ensures given { OnOk result (self.new.given ≡ 0) }
     {
-        self.clear();
-        self.asked.extend_from_slice(front)?;
+        self.asked.resize(list.len(), raised)?;
+        self.asked.copy_from_slice(list);
+        self.asked[last] = raised;
         self.planned = self.asked.len();
-        self.asked.push(raised)?;
-        self.planned = self.asked.len();
+        self.given = 0;
         Ok(())
     }
 
@@ -145,17 +152,15 @@ impl Recorder {
         self.given = count;
     }
 
-    /// Gives its answers and their bounds away, and keeps nothing.
+    /// Gives its answers and their bounds away, in exchange for others, which are its plan now.
     pub(crate) fn hand_over(&mut self, asked: &mut Vec<Asked>)
         ensures asked { asked.new.items ≡ self.old.asked.items }
-        ensures no_answers { self.new.asked.items ≡ [] }
-        ensures none_given { self.new.given ≡ 0 }
-        ensures no_plan { self.new.planned ≡ 0 }
+        ensures planned { self.new.planned ≡ vec_len self.new.asked }
+        ensures given { self.new.given ≡ 0 }
     {
         mem::swap(&mut self.asked, asked);
-        self.planned = 0;
+        self.planned = self.asked.len();
         self.given = 0;
-        self.asked.clear();
     }
 
     /// Forgets its plan and its answers.

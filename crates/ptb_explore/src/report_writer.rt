@@ -61,13 +61,14 @@ fn count_same(items: &[KeptItem], form: Form, asked: &[Asked]) -> usize
     ensures same { take result (items_of items.now)
         ≡ take result (asked_items form asked.now) }
 {
-    for k in 0..asked.len() {
+    let most = items.len().min(asked.len());
+    for k in 0..most {
         let Asked { answer, bound } = asked[k];
-        if k >= items.len() || !is_item(&items[k], answer, bound_in(form, bound)) {
+        if !is_item(&items[k], answer, bound_in(form, bound)) {
             return k;
         }
     }
-    asked.len()
+    most
 }
 
 // How many bytes the text has up to the end of so many items.

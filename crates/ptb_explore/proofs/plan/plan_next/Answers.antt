@@ -1,5 +1,5 @@
 -- This file answers that the plan raises the last answer below its bound.
-use Rattle.std.proofs.Common.{rules, ◌≡◌, ◌<◌, ◌≤◌, ◌++◌, ◌∷◌, [], ℕ, List, take, arith, ap, refl}
+use Rattle.std.proofs.Common.{rules, ◌≡◌, ◌+◌, ◌<◌, ◌≤◌, ◌++◌, ◌∷◌, [], ℕ, List, take, arith, ap, refl}
 use Rattle.std.proofs.Common.{sym, subst, ◌∙◌, ℤ, pos, ◌+ℤ◌, FitsSigned, w16, to_z, of_z, get_or}
 use Rattle.std.proofs.Common.{length, slice_index_or}
 use Rattle.std.proofs.lemmas.Int.{ints}
@@ -28,6 +28,11 @@ front_bounds asked i r within =
     ∙ ap bounds_in (take-append-le i (take i asked) (r ∷ []) n ∙ take_twice i i asked (omega arith))
     ∙ sym (take-map (λ (q : Asked). q.bound) i asked)
 
+-- the answers in front of the raised one are those of the list that is planned
+front_twice : (asked : List Asked) (i : ℕ) (r : Asked)
+    → take i (take (i + 1) asked) ++ r ∷ [] ≡ take i asked ++ r ∷ []
+front_twice asked i r = ap (λ (l : List Asked). l ++ r ∷ []) (take_twice i (i + 1) asked (omega arith))
+
 pub returns-in_ok-restart-in-Some-clause-plan : goal.returns-in_ok-restart-in-Some-clause-plan
 returns-in_ok-restart-in-Some-clause-plan c =
     let asked = c.args.asked.now in
@@ -42,7 +47,7 @@ returns-in_ok-restart-in-Some-clause-plan c =
     let room = c.in-Some.ensures.room in
     let raised : to_z w16 (of_z w16 (to_z w16 (of_z w16 answer) +ℤ pos 1)) ≡ answer +ℤ pos 1 =
     omega (arith, ints, room, there) in
-    let plan = ap answers_in c.in_ok-restart-in-Some.ensures.asked ∙ front_answers asked i _
+    let plan = ap answers_in (c.in_ok-restart-in-Some.ensures.asked ∙ front_twice asked i _) ∙ front_answers asked i _
     ∙ ap (λ k. take i (answers_in asked) ++ k ∷ []) (raised ∙ ap (λ (k : ℤ). k +ℤ pos 1) (sym there)) in
     rw c.in-AtRun.is (place, plan)
 
@@ -51,7 +56,8 @@ returns-in_ok-restart-in-Some-clause-bounds c =
     let asked = c.args.asked.now in
     let i = c.in-Some.i in
     let within : i ≤ length asked = omega (arith, c.in-Some.ensures.place.within, length-answers_in asked) in
-    ap (λ (l : List Asked). take i (bounds_in l)) c.in_ok-restart-in-Some.ensures.asked ∙ front_bounds asked i _ within
+    ap (λ (l : List Asked). take i (bounds_in l)) (c.in_ok-restart-in-Some.ensures.asked ∙ front_twice asked i _)
+    ∙ front_bounds asked i _ within
 
 pub returns-in-None-clause-plan : goal.returns-in-None-clause-plan
 returns-in-None-clause-plan c =
