@@ -1,18 +1,23 @@
 -- This file proves which operator is next, by the next byte.
--- Main lemma: `number_alone`.
-use Rattle.std.proofs.Common.{◌≡◌, ℕ, ◌+◌, ◌≤◌, ◌∙◌, Bool, true, false, List, refl, ap, eqb, leb}
+-- Main lemmas: `number_alone` and `number_alone_spelled`.
+use Rattle.std.proofs.Common.{◌≡◌, ℕ, ℤ, ◌+◌, ◌≤◌, ◌∙◌, Bool, true, false, List, refl, ap, eqb, leb}
 use Rattle.std.proofs.Common.{sym, Option, Some, None, arith}
 use Rattle.std.specs.Prelude.{IsFalse, ◌&&◌, if◌then◌else◌}
 use Rattle.std.proofs.lemmas.Bool.{ne_eqb, and_parts, false≢true, leb-true, lt-leb}
 use Rattle.ptb_text.specs.declared.word.Table.TheVariants.{Functions}
 use Rattle.ptb_text.specs.Digits.{is_digit}
-use Rattle.ptb_text.specs.Words.{past_blanks, next_byte_at, letter_at, number_at, is_number}
+use Rattle.ptb_text.specs.declared.word.Number.TheVariants.{Value}
+use Rattle.ptb_text.specs.Words.{past_blanks, next_byte_at, letter_at, number_at, is_number, is_over}
 use Rattle.ptb_text.specs.Words.{token_at, pair_at, word_at}
 use Rattle.ptb_text.specs.Finding.{StandsNext, FindingLaws, is_next, past_byte}
 use Rattle.ptb_expr.specs.declared.operator.Operator.TheVariants.{Plus, Minus, Multiply, Divide}
 use Rattle.ptb_expr.specs.declared.operator.Operator.TheVariants.{GreaterEqual, NotEqual, Greater}
 use Rattle.ptb_expr.specs.declared.operator.Operator.TheVariants.{Equals, LessEqual, Less}
 use Rattle.ptb_expr.specs.Operators.{product_operator, sum_operator, comparison}
+use Rattle.ptb_expr.specs.Reading.{Whole}
+use Rattle.ptb_expr.specs.Spells.{Expr, Spells}
+use Rattle.ptb_expr.specs.Spells as spells
+use Rattle.ptb_expr.specs.Tree.{Num}
 
 -- the next byte is not c
 other_byte : (c b : ℕ) → (b ≡ c → ⊥) → eqb c b ≡ false
@@ -147,3 +152,20 @@ digit_alone t i (Some b) s h =
 
 pub number_alone : FindingLaws → (t : List ℕ) (i : ℕ) → is_number (number_at t i).0 ≡ true → IsAlone t i
 number_alone laws t i e = digit_alone t i (next_byte_at t i) (laws.next t i) (sym (laws.next t i).number ∙ e)
+
+number_before_end : FindingLaws → (t : List ℕ) (i j : ℕ) (v : ℤ) (next : Option ℕ) → number_at t i ≡ (Value v, j)
+    → StandsNext t j next → is_over t j ≡ true → Spells t Expr i (Whole (Num v) j)
+number_before_end laws t i j v (Some b) here ends over = absurd (false≢true (sym ends.over ∙ over))
+number_before_end laws t i j v None here ends over =
+    let alone = number_alone laws t i (ap (λ n. is_number n.0) here) in
+    spells.sum_alone
+        (spells.sum (spells.no_sign alone.no_minus alone.no_plus
+        (spells.product (spells.number alone.no_function alone.no_letter alone.no_element here)
+        (spells.product_end (no_product_operator_end t j ends))))
+        (spells.sum_end (no_sum_operator_end t j ends)))
+        (no_comparison_end t j ends)
+
+-- a number with nothing after it is an expression
+pub number_alone_spelled : FindingLaws → (t : List ℕ) (i j : ℕ) (v : ℤ) → number_at t i ≡ (Value v, j)
+    → is_over t j ≡ true → Spells t Expr i (Whole (Num v) j)
+number_alone_spelled laws t i j v here = number_before_end laws t i j v (next_byte_at t j) here (laws.next t j)
