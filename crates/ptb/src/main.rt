@@ -1,13 +1,16 @@
 //! The program `ptb`: it serves the request that its arguments make, and exits with a status.
 //!
-//! It depends on `ptb_serve`, `ptb_explore`, `ptb_machine`, `ptb_options`, `ptb_text` and `clap`.
-//! No crate depends on it. Its contract is that of `run_arguments`, over any arguments, or the
-//! error of reading them, and over any programs, input and writer: what is read and written and the
-//! status are those of the reply to the request that the arguments make, or the status says which
-//! fault the arguments have, and nothing is read from that input or written to that writer. What
-//! `main`, `console.rt` and `progress.rt` do is tested, not proved: which file and which streams
-//! are opened, that lines for standard error are printed, that output is flushed, what is left out
-//! at a terminal, and what shows there how far a table is counted.
+//! It depends on `ptb_serve`, `ptb_explore`, `ptb_machine`, `ptb_options`, `ptb_text` and `clap`, and
+//! on definitions of `ptb_command`. No crate depends on it.
+//!
+//! Its contract is that of `run_arguments`, over any arguments, or the error of reading them, and over
+//! any programs, input and writer. If the arguments make a request, the bytes that are read and
+//! written and the status are those of the reply to it. Otherwise the status says which fault the
+//! arguments have, and nothing is read from that input or written to that writer.
+//!
+//! What `main`, `console.rt` and `progress.rt` do is tested, not proved: which file and which streams
+//! are opened, that lines for standard error are printed, that output is flushed, what is left out at
+//! a terminal, and what a terminal shows while a table is counted.
 #![tactic(auto)]
 
 mod arguments;

@@ -6,7 +6,7 @@ use std::cell::Cell;
 use std::rt::Runtime;
 use std::time::Instant;
 
-// For so many milliseconds a line stays as it is. What takes less time shows none.
+// A line stays for at least this many milliseconds. A count that takes less time shows none.
 const PAUSE: u128 = 500;
 
 // Back to the start of the line, which is erased.

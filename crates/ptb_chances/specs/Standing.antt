@@ -1,6 +1,6 @@
--- This file defines where a play is, and what comes of it with some answers more.
+-- This file defines where a play is, and its results with some more answers.
 --     SameEnd s t                      whatever is shown next, the last line is the same after s and after t
---     StandsAt p rules m left shown S      a machine stands for the state S; these lines are left, and this was shown
+--     StandsAt p rules m left shown S      a machine represents the state S; these lines are left, and this was shown
 --                                          last
 --     StandsAtPlace stage place S      the same of the machine of a place
 --     CanPlay stage place plan         a plan that is open can be played on from a place

@@ -1,5 +1,5 @@
-// This file adds up the chances of all runs of a program. Plays that come to one place are played on
-// together.
+// This file adds up the chances of all runs of a program. Plays that come to the same place are
+// continued together.
 
 ghost use Rattle.std.specs.Prelude.{◌≡◌, ◌<◌, ◌∷◌, IfOk, OnOk};
 ghost use Rattle.ptb_chances.specs.Prelude.{lines, play, most_answers, last_line, tree, AddsRow, IsAccountOf};
@@ -38,7 +38,7 @@ fn add_over(
     Ok(())
 }
 
-// After so many plans, the one who watches is asked again whether progress is due.
+// After each such number of plans, the watch is asked whether progress is due.
 const PLANS: u32 = 256;
 
 // How far the runs of a program are counted.
@@ -50,7 +50,7 @@ struct Count<'p, 'l> {
 }
 
 impl<'p, 'l> Count<'p, 'l> {
-    // Plays a plan that was taken out of the work, and counts what is over, or puts in what is not.
+    // Plays a plan that was taken out of the work. Plays that are over are counted; others are put back.
     fn settle(&mut self, alloc: Global, plan: Plan) -> Result<(), AllocError>
         requires { IsCounted self.old.stage self.old.tally
             (planned self.old.work.place plan ∷ standings self.old.work) }
@@ -84,7 +84,7 @@ impl<'p, 'l> Count<'p, 'l> {
         }
     }
 
-    // Shows how far the runs are counted after so many plans, if it is due.
+    // Shows how far the runs are counted, if that is due after this number of plans.
     fn show<W: Watch>(&self, alloc: Global, played: u32, watch: &W) {
         if played % PLANS != 0 || !watch.is_due() {
             return;

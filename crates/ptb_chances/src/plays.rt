@@ -1,4 +1,4 @@
-// This file plays a run on from where it is, with the answers of a plan.
+// This file continues a run from where it is, with the answers of a plan.
 
 ghost use Rattle.std.specs.Prelude.{◌≡◌, ◌-◌, ◌<◌, ◌≤◌, ℕ, false, true, drop, length, take, IfOk};
 ghost use Rattle.ptb_answers.specs.Outcome.{is_open};
@@ -10,12 +10,12 @@ use crate::planned::PlanChooser;
 use ptb_machine::{Ending, Lines, Machine, Player, Rules, RunFault, TextScreen, run_laws};
 use std::alloc::AllocError;
 
-/// What a run results in that is played with the answers of a plan.
+/// The result of a run that is played with the answers of a plan.
 #[derive(Clone, Copy)]
 pub(crate) enum Played {
     /// It is over.
     Over(Ending),
-    /// It asks for an answer more, with this bound.
+    /// It asks for one more answer, with this bound.
     Asks(i16),
     /// The command that took the last answer is done.
     Goes,
@@ -41,7 +41,7 @@ pub(crate) struct Console<'l> {
     pub(crate) source: Lines<'l>,
 }
 
-/// Plays a run of the player's program on from where it is, with the answers of a plan: up to its
+/// Continues a run of the player's program from where it is, with the answers of a plan: up to its
 /// end, to a question after them, or through the command that takes the last of them. Where the plan has
 /// no answers, this is one command.
 ///

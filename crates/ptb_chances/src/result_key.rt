@@ -1,4 +1,4 @@
-// This file has what a run results in, in the order of the table.
+// This file has the results of runs as keys, in the order of the table.
 
 ghost use Rattle.std.specs.Prelude.{◌≡◌, refl};
 ghost use Rattle.std.specs.Cmp.{on_total, on_equiv, eq_by_cmp_equiv, partial_equiv_from_equiv};

@@ -23,7 +23,7 @@ pub(crate) struct Stage<'p, 'l> {
 }
 
 impl<'p, 'l> Stage<'p, 'l> {
-    // Plays a plan on from its place, up to the end of the command that takes its last answer.
+    // Plays a plan from its place, up to the end of the command that takes its last answer.
     fn start(&mut self, alloc: Global, place: &Place, plan: &Plan) -> Result<Played, AllocError>
         requires { CanPlay self.old place.now plan.now.answers.items }
         ensures player { self.new.player ≡ self.old.player }
@@ -73,8 +73,8 @@ impl<'p, 'l> Stage<'p, 'l> {
         Ok(())
     }
 
-    // Plays on from where the trial is: up to the end, which is given, or to before the command
-    // that asks next.
+    // Continues from where the trial is: up to the end of the run, which is given, or up to the next
+    // command that asks.
     fn go_on(&mut self, alloc: Global) -> Result<Option<Ending>, AllocError>
         requires unspent { self.old.trial.spent ≡ false }
         requires within { self.old.console.source.taken ≤ length self.old.console.source.lines }
@@ -114,8 +114,8 @@ impl<'p, 'l> Stage<'p, 'l> {
         }
     }
 
-    /// Plays a plan on from its place: up to its end, to a question of the command that took its last
-    /// answer, or to before the command that asks next.
+    /// Plays a plan from its place: up to the end of the run, to a question of the command that took the
+    /// last answer, or up to the next command that asks.
     ///
     /// # Errors
     ///

@@ -66,7 +66,7 @@ impl Tally {
         }
     }
 
-    /// Adds so many runs with this result, which have this chance together.
+    /// Adds a number of runs with this result, whose chances add up to this chance.
     ///
     /// # Errors
     ///

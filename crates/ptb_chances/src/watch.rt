@@ -1,4 +1,4 @@
-// This file has what may watch how far a table is counted.
+// This file has the trait of whatever watches how far a table is counted.
 
 use ptb_text::Device;
 
@@ -24,7 +24,7 @@ impl Watch for Unwatched {
     fn show(&self, _waiting: usize, _billionths: u32) {}
 }
 
-// A device has nobody who watches it.
+// A device doesn't watch.
 impl<T> Watch for Device<T> {
     fn is_due(&self) -> bool {
         false

@@ -44,7 +44,7 @@ pub(crate) struct Worklist {
     pub(crate) plans: Vec<Plan>,
     /// Plays that have no plan, by the keys of their places.
     pub(crate) states: BTreeMap<u64, Waiting>,
-    /// Those for which the key was taken by another place.
+    /// Those whose key another place has.
     pub(crate) others: Vec<Waiting>,
 }
 
@@ -109,7 +109,7 @@ impl Place {
 }
 
 impl Waiting {
-    // Takes in other plays, which are at the same place.
+    // Adds other plays, which are at the same place.
     fn join(&mut self, alloc: Global, other: &Waiting) -> Result<(), AllocError>
         ensures place { OnOk result (self.new.place ≡ self.old.place) }
         ensures chance { OnOk result (Equals self.new.chance

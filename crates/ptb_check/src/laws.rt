@@ -14,7 +14,7 @@ pub(crate) fn code_mistake_laws()
     command_laws();
 }
 
-/// The command at which a run ends with a fault is whole, or its mistake is among those of its
+/// The command at which a run ends with a fault is well formed, or its mistake is among those of its
 /// program.
 #[tactic(auto, using(crate::proofs::Lawful::check_laws))]
 pub fn check_laws()

@@ -1,4 +1,4 @@
--- This file defines which argument is refused since its option takes a number.
+-- This file defines which argument is refused because it is no number in the range of its option.
 --     option_word name                the argument that names an option
 --     IsNumberOption word o           the argument names the option o, which takes a number
 --     IsWrongFor o value w            w is the value, which is no number in the range of o

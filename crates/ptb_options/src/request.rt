@@ -20,11 +20,11 @@ pub enum Mode {
     Seeded(u64),
     /// All its runs are listed.
     All {
-        /// The answers with which each run begins that is listed, some of them with their bounds; any
-        /// run is where there is none.
+        /// The answers with which each listed run begins, some of them with their bounds; all runs are
+        /// listed where there is none.
         under: Option<MarkedAnswers>,
-        /// The run after which the listing begins, of whose answers some may have their bounds; from
-        /// the first run on where there is none.
+        /// The answers of the run after which the listing begins, some of them with their bounds; it
+        /// begins with the first run where there is none.
         after: Option<MarkedAnswers>,
         /// The number of runs that are listed, if there are that many; all of them where there is
         /// none.
@@ -39,7 +39,7 @@ pub enum Mode {
         /// How the lists have the answers.
         form: Form,
     },
-    /// Runs of it are listed whose answers one seed gives.
+    /// Runs whose answers a seed draws are listed.
     Sample {
         /// The seed, 0 to 4,294,967,295.
         seed: u64,
@@ -59,8 +59,8 @@ pub enum Mode {
 /// What the tool is asked to do.
 #[derive(Debug, Drop)]
 pub struct Request {
-    /// By which its runs are played: the most commands that a run begins, 1 to 1,000,000,000, and the
-    /// bound with which INPUT asks for an answer where no line is left, if it does, 1 to 32767.
+    /// The rules of its runs: the most commands that a run begins, 1 to 1,000,000,000, and the bound
+    /// with which INPUT asks for an answer where no line is left, if it does, 1 to 32767.
     pub rules: Rules,
     /// The memory that the program is given, 64 to 32767.
     pub memory: u16,

@@ -1,4 +1,4 @@
-// This file finds the argument that clap refuses since its option takes a number, to say which number.
+// This file finds the argument that clap refuses because it is no number in the range of its option.
 
 ghost use Rattle.std.specs.Prelude.{◌≡◌, ◌↔◌, IsTrue, IfSome, Some, None, map, option_copied, slice_get, false};
 ghost use Rattle.std.specs.Fmt.{WritesOnOk};

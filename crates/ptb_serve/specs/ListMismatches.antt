@@ -3,7 +3,7 @@
 --     items_of list                        the items of a list; one that is not named has none
 --     IsMismatchIn game under after m      m says why one of these lists fits no run
 --     IsMismatchOf mode p input rules m    the same, of the lists of a request
---     refused_attempt m                    the attempt of a listing of which a list fits no run
+--     refused_attempt m                    the attempt of a listing whose list fits no run
 --     unbegun_attempt why                  the attempt of a listing that is not begun
 --     IsListRefused game under after m         a list is refused by its note, and for what it does not fit
 --     IsUnbegun game under after why       a list is refused, or memory was

@@ -6,8 +6,7 @@
 --     RefusesListIn result        a list is refused
 --     IsServed mode ..            all of these of a mode that begins with no list
 --     IsServedOn mode ..          the same of lines that were read
---     TellsMismatch mode ..       what is said of a list goes with its note, and is so; and it is said with each such
---                                 note
+--     TellsMismatch mode ..       what is said of a list accompanies its note, and is true; and each such note has it
 --     line_of ended               the line at which the limit stopped a run
 --     line_in_mode mode p lines rules     the same of the play on these lines
 --     TellsLine mode ..           where the limit stopped a run, the line is that of the play

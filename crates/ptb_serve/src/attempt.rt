@@ -28,7 +28,7 @@ impl Attempt {
         }
     }
 
-    // The attempt of a listing of which a list fits no run.
+    // The attempt of a listing whose list fits no run.
     fn refused(mismatch: ListMismatch) -> Attempt
         ensures { result ≡ refused_attempt mismatch }
     {

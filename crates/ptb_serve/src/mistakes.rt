@@ -28,7 +28,7 @@ pub fn list_mistakes<W: Write>(program: &Program, out: &mut W) -> Result<u8, Not
     Ok(status_of(any))
 }
 
-// 1 where there is a mistake, else 0.
+// 1 where there is a mistake, otherwise 0.
 fn status_of(any: bool) -> u8
     ensures status { result ≡ check_status any }
     ensures small { result ≤ 1 }

@@ -1,4 +1,4 @@
-// This file has the lines that go to standard error, and the status that each goes with.
+// This file has the lines that go to standard error, and the status of each.
 
 ghost use Rattle.std.specs.Prelude.{◌≡◌};
 ghost use Rattle.ptb_serve.specs.declared.note.Note.TheVariants.{OutOfMemory};
@@ -20,9 +20,9 @@ pub enum Note {
     ProgramUnread,
     /// Reading the input failed, or it has too many bytes.
     InputUnread,
-    /// No run begins with the answers with which those to be listed were to begin.
+    /// No run begins with the answers of `--under`, or one of their bounds is wrong.
     NoBeginning,
-    /// The run after which a listing was to begin is none.
+    /// The answers of `--after` are no run of the listing, or one of their bounds is wrong.
     NoRun,
     /// A growth was refused memory.
     OutOfMemory,

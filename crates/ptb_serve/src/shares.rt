@@ -12,8 +12,8 @@ use ptb_options::Request;
 use ptb_text::{Program, Read, Write};
 use std::alloc::Global;
 
-/// Writes the lists of at most so many answers that split a program's runs, a line each. The status
-/// is 0.
+/// Writes the lists of at most `answers` answers that split a program's runs, one in each line. The
+/// status is 0.
 ///
 /// Nothing is written until the input was read to its end.
 ///

@@ -18,7 +18,7 @@ enum Fault {
     ByTool(UsageFault),
 }
 
-// What words ask for, of which the first is the program's name.
+// The request of these arguments; the first of them is the program's name.
 fn asked(alloc: Global, words: &[&str]) -> Result<Request, Fault> {
     match parse(alloc, words) {
         Ok(matches) => decide(alloc, &matches).map_err(Fault::ByTool),
@@ -31,7 +31,7 @@ fn refusal(alloc: Global, words: &[&str]) -> Option<Fault> {
     asked(alloc, words).err()
 }
 
-// The words of a line, between two of which there is one blank.
+// The arguments of a line, with one blank between two of them.
 fn words_of(alloc: Global, line: &str) -> Result<Vec<&str>, AllocError> {
     let mut words = Vec::new(alloc);
     for word in line.split(' ') {
@@ -40,7 +40,7 @@ fn words_of(alloc: Global, line: &str) -> Result<Vec<&str>, AllocError> {
     Ok(words)
 }
 
-// What is said against the words of a line.
+// The error for the arguments of a line.
 fn line_refusal(alloc: Global, line: &str) -> Option<Fault> {
     match words_of(alloc, line) {
         Ok(words) => refusal(alloc, &words),
@@ -48,7 +48,7 @@ fn line_refusal(alloc: Global, line: &str) -> Option<Fault> {
     }
 }
 
-// The request of the words of a line, where they ask for one.
+// The request that the arguments of a line make, if they make one.
 fn requested(alloc: Global, line: &str) -> Option<Request> {
     asked(alloc, &words_of(alloc, line).ok()?).ok()
 }
