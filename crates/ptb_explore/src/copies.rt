@@ -1,6 +1,6 @@
 // This file has the copies of a machine that are kept of a run, from which the next runs continue.
 
-ghost use Rattle.std.specs.Prelude.{◌≡◌, ℕ, ℤ, List, Option, [], false, IfOk, drop, length};
+ghost use Rattle.std.specs.Prelude.{◌≡◌, ◌<◌, ℕ, ℤ, List, Option, [], false, IfOk, drop, length};
 ghost use Rattle.ptb_command.specs.Representation.{Represents};
 ghost use Rattle.ptb_command.specs.State.{first_state};
 ghost use Rattle.ptb_explore.specs.Copies.{KeepsCopy, GoesBackTo, IsSameCopy, with_room};
@@ -238,17 +238,28 @@ impl Copies {
         ensures { KeepsCopy before machine.now reached.taken reached.shown reached.lines
             self.old.kept.items self.new.kept.items }
     {
+        if reached.taken <= before {
+            return;
+        }
+        if reached.taken == expected {
+            return;
+        }
+        self.add(alloc, machine, reached);
+    }
+
+    // Adds a copy of a machine, if there is memory for it. Not inlined, since most runs keep none: the loop of a
+    // play would have the places of all copies at hand.
+    #[inline(never)]
+    fn add(&mut self, alloc: Global, machine: &Machine, reached: Progress)
+        ensures { (before : ℕ) → before < reached.taken
+            → KeepsCopy before machine.now reached.taken reached.shown reached.lines
+            self.old.kept.items self.new.kept.items }
+    {
         let Progress {
             taken,
             shown,
             lines,
         } = reached;
-        if taken <= before {
-            return;
-        }
-        if taken == expected {
-            return;
-        }
         let room = self.room();
         if let Ok(copy) = copied(alloc, room, machine) {
             let _ = self.kept.try_push(KeptCopy {
