@@ -159,11 +159,11 @@ number_before_end laws t i j v (Some b) here ends over = absurd (false≢true (s
 number_before_end laws t i j v None here ends over =
     let alone = number_alone laws t i (ap (λ n. is_number n.0) here) in
     spells.sum_alone
-        (spells.sum (spells.no_sign alone.no_minus alone.no_plus
-        (spells.product (spells.number alone.no_function alone.no_letter alone.no_element here)
-        (spells.product_end (no_product_operator_end t j ends))))
-        (spells.sum_end (no_sum_operator_end t j ends)))
-        (no_comparison_end t j ends)
+    (spells.sum (spells.no_sign alone.no_minus alone.no_plus
+    (spells.product (spells.number alone.no_function alone.no_letter alone.no_element here)
+    (spells.product_end (no_product_operator_end t j ends))))
+    (spells.sum_end (no_sum_operator_end t j ends)))
+    (no_comparison_end t j ends)
 
 -- a number with nothing after it is an expression
 pub number_alone_spelled : FindingLaws → (t : List ℕ) (i j : ℕ) (v : ℤ) → number_at t i ≡ (Value v, j)
@@ -173,4 +173,4 @@ number_alone_spelled laws t i j v here over =
     let low : length t ≤ past_blanks t j = leb-true (length t) (past_blanks t j) over in
     let end : j ≡ length t = omega (arith, ahead.settled, ahead.within, low) in
     subst (λ (k : ℕ). Spells t Expr i (Whole (Num v) k)) end
-        (number_before_end laws t i j v (next_byte_at t j) here (laws.next t j) over)
+    (number_before_end laws t i j v (next_byte_at t j) here (laws.next t j) over)
