@@ -1,7 +1,7 @@
 -- This file proves which operator is next, by the next byte.
 -- Main lemmas: `number_alone` and `number_alone_spelled`.
 use Rattle.std.proofs.Common.{◌≡◌, ℕ, ℤ, ◌+◌, ◌≤◌, ◌∙◌, Bool, true, false, List, refl, ap, eqb, leb}
-use Rattle.std.proofs.Common.{sym, Option, Some, None, arith}
+use Rattle.std.proofs.Common.{sym, subst, length, Option, Some, None, arith}
 use Rattle.std.specs.Prelude.{IsFalse, ◌&&◌, if◌then◌else◌}
 use Rattle.std.proofs.lemmas.Bool.{ne_eqb, and_parts, false≢true, leb-true, lt-leb}
 use Rattle.ptb_text.specs.declared.word.Table.TheVariants.{Functions}
@@ -159,13 +159,18 @@ number_before_end laws t i j v (Some b) here ends over = absurd (false≢true (s
 number_before_end laws t i j v None here ends over =
     let alone = number_alone laws t i (ap (λ n. is_number n.0) here) in
     spells.sum_alone
-        (spells.sum (spells.no_sign alone.no_minus alone.no_plus
-        (spells.product (spells.number alone.no_function alone.no_letter alone.no_element here)
-        (spells.product_end (no_product_operator_end t j ends))))
-        (spells.sum_end (no_sum_operator_end t j ends)))
-        (no_comparison_end t j ends)
+    (spells.sum (spells.no_sign alone.no_minus alone.no_plus
+    (spells.product (spells.number alone.no_function alone.no_letter alone.no_element here)
+    (spells.product_end (no_product_operator_end t j ends))))
+    (spells.sum_end (no_sum_operator_end t j ends)))
+    (no_comparison_end t j ends)
 
 -- a number with nothing after it is an expression
 pub number_alone_spelled : FindingLaws → (t : List ℕ) (i j : ℕ) (v : ℤ) → number_at t i ≡ (Value v, j)
-    → is_over t j ≡ true → Spells t Expr i (Whole (Num v) j)
-number_alone_spelled laws t i j v here = number_before_end laws t i j v (next_byte_at t j) here (laws.next t j)
+    → is_over t j ≡ true → Spells t Expr i (Whole (Num v) (length t))
+number_alone_spelled laws t i j v here over =
+    let ahead = laws.number t i (Value v) j here refl in
+    let low : length t ≤ past_blanks t j = leb-true (length t) (past_blanks t j) over in
+    let end : j ≡ length t = omega (arith, ahead.settled, ahead.within, low) in
+    subst (λ (k : ℕ). Spells t Expr i (Whole (Num v) k)) end
+    (number_before_end laws t i j v (next_byte_at t j) here (laws.next t j) over)
