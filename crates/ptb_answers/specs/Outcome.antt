@@ -1,11 +1,11 @@
--- This file defines the result of working something out where answers are taken from a list, one by one.
+-- This file defines the result of what takes answers from a list, one by one.
 --     Outcome A W              a result and the answers left, a question without an answer, or an answer outside its
 --                              bound
 --     go_on o next             continues with a result; a question or an outside answer stays what it is
 --     map_outcome f g o        the same with another result, and with another thing that accompanies a question
 --     answer n w               takes an answer from 1 to n
 --     m >>= next               continues with a value; a fault stays what it is
---     IsReader f most          the laws of what takes answers one by one, at most so many
+--     IsReader f most          the laws of what takes answers one by one, at most `most` of them
 use Rattle.std.specs.Prelude.{◌≡◌, ℕ, ◌+◌, ◌<◌, ◌≤◌, Bool, true, false, ◌&&◌, List, [], ◌∷◌, ◌++◌}
 use Rattle.std.specs.Prelude.{length, ℤ, pos, ◌≤ℤ◌, int_le, Result, Ok, Err, if◌then◌else◌}
 
@@ -92,7 +92,7 @@ bounds_after f q (k ∷ ks) = bound_of (f q) ∷ bounds_after f (q ++ k ∷ []) 
 abbrev pub bounds : {A W : Type 0} → (Answers → Outcome A W) → Answers → List ℤ
 bounds f a = bounds_after f [] a
 
--- Answers are taken one by one, each inside its bound, and at most so many of them.
+-- Answers are taken one by one, each inside its bound, and at most `most` of them.
 -- What is done with the first answers doesn't depend on later ones.
 pub record IsReader {A W : Type 0} (f : Answers → Outcome A W) (most : ℕ) : Type 0 where
   pub begins : is_open (f []) ≡ true

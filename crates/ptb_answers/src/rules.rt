@@ -3,10 +3,10 @@
 ghost use Rattle.std.specs.Prelude.{pos, ◌≤ℤ◌, IfSome};
 ghost use Rattle.std.proofs.Props.{props};
 
-/// What a run is played by, beside its program, its input and its answers.
+/// The rules of a run. Together with its program, its input and its answers they determine it.
 #[derive(Clone, Copy, Debug, PartialEq, Eq)]
 pub struct Rules {
-    /// At most so many commands are begun: where another one would be, the run ends.
+    /// The most commands that are begun: where one more would be begun, the run ends.
     pub limit: u32,
     /// The bound with which INPUT asks for an answer where no line is left, from 1 to 32767.
     /// Without a bound the run ends there.

@@ -1,7 +1,7 @@
 -- This file defines what a command does.
 --     parts_action parts w operands    the parts of a command, one after the other
 --     finish kind p q ..               what a command does once its parts are done
---     act p q c                        a whole command, whose fault is reported
+--     act p q c                        an entire command, whose fault is reported
 use Rattle.std.specs.Prelude.{ℕ, ◌+◌, ◌-◌, Bool, true, false, not, ◌||◌, ◌==◌, nat_le}
 use Rattle.std.specs.Prelude.{if◌then◌else◌, List, [], ◌∷◌, ◌++◌, length, take, drop, filter}
 use Rattle.std.specs.Prelude.{replicate, slice_index, Option, Some, None, is_some, Result, Ok, Err}

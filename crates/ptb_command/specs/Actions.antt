@@ -3,7 +3,7 @@
 --                               state, or halts
 --     and_then m next           one after the other
 --     goes_on x, halt h         nothing is done; the command stops
---     attempt m, work_action m  something is worked out; its fault is a result, or halts
+--     attempt m, work_action m  something is evaluated; its fault is a result, or halts
 use Rattle.std.specs.Prelude.{ℕ, List, ◌++◌, Result, Ok, Err}
 use Rattle.ptb_expr.specs.declared.fault.Fault.{Fault}
 use Rattle.ptb_answers.specs.Outcome.{Answers, Outcome, Done, go_on, map_outcome}
@@ -49,7 +49,7 @@ change f S a = Done (Goes tt (f S)) a
 abbrev pub show : List ℕ → Action (Unit {0})
 show s = change (λ S. record S { shown = S.shown ++ s })
 
--- something is worked out with the cells of the state; a fault is a result
+-- something is evaluated with the cells of the state; a fault is a result
 abbrev pub attempt : {A : Type 0} → (Cells → Work A) → Action (Result A Fault)
 attempt m S a = map_outcome (λ r. Goes r S) (λ _. S) (m S.cells a)
 

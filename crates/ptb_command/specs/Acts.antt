@@ -1,4 +1,4 @@
--- This file defines the result of a command for a whole machine.
+-- This file defines the result of a command for an entire machine.
 --     Refines p old new o n f g           from machine to machine and devices to devices, what f does is what is left
 --                                         to do for g
 --     Acts refused p old new o n f r   f has the result r

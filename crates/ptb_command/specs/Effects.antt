@@ -1,10 +1,10 @@
 -- This file defines what a command may change of the state in which it begins.
---     action_state o, act_state o      the state in which an action, or a whole command, continues, halts or asks
+--     action_state o, act_state o      the state in which an action, or an entire command, continues, halts or asks
 --     Begins shown all                 all of it begins with what is shown
 --     TakesLines lines left            of the lines some were taken, from the first on, and these are left
 --     PartChange S T                   what the parts of a command may change
 --     EndChange S T                    what a command may change once its parts are done
---     CommandChange S T                what a whole command may change
+--     CommandChange S T                what an entire command may change
 use Rattle.std.specs.Prelude.{◌≡◌, ℕ, ◌≤◌, List, ◌++◌}
 use Rattle.ptb_answers.specs.Outcome.{Outcome, Done, Asks, Out}
 use Rattle.ptb_command.specs.State.{State, nesting, nesting_limit}

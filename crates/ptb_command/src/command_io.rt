@@ -71,7 +71,7 @@ impl<'a, C: Chooser, S: Screen, L: LineSource> CommandIo<'a, C, S, L> {
         result
     }
 
-    /// Shows what was gathered if there is no room for so many bytes more.
+    /// Shows what was gathered if there is no room for `count` more bytes.
     #[inline(always)]
     pub(crate) fn make_room(
         &mut self,

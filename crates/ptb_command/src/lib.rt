@@ -2,7 +2,7 @@
 //! `command_code.rt`). Its code is then executed (`execution.rt`): it changes the store, the loops
 //! and calls that are open, and the place, and it shows, takes and asks.
 //!
-//! It stands on `ptb_devices`, `ptb_expr`, `ptb_answers`, `ptb_text`, `arrayvec` and `itoa`. The
+//! It depends on `ptb_devices`, `ptb_expr`, `ptb_answers`, `ptb_text`, `arrayvec` and `itoa`. The
 //! crate above may rely on `translate` (the code is that of the parts that `specs/Commands` reads),
 //! on `Registers::execute` (a command does by its code what `specs/Act` says, or stops where that
 //! does), on `Registers::do_several_plainly` (some commands that ask nothing), on `Stack` (what is

@@ -1,4 +1,4 @@
-// This file shows bytes of a run.
+// This file shows bytes of a run, and keeps whether its transcript is fresh, by `put` and `show`.
 
 ghost use Rattle.std.specs.Prelude.{◌≡◌};
 ghost use Rattle.ptb_command.specs.Prelude.{Cells, goes_on, show_action, Devices, screen_state, with_screen};

@@ -56,8 +56,8 @@ impl PendingOutput {
         self.buffer.room()
     }
 
-    /// Takes bytes for all of which there is room: in less time where they are few, as those of most input
-    /// lines are.
+    /// Adds bytes. There must be room for all of them. This is faster for a few bytes, as most input
+    /// lines have.
     #[inline(always)]
     pub(crate) fn append(&mut self, bytes: &[u8])
         requires { length self.old + length bytes.now ≤ PENDING_LIMIT }
@@ -70,8 +70,9 @@ impl PendingOutput {
         }
     }
 
-    // Takes bytes for all of which there is room: a block of this size at their beginning, and one at their
-    // end, over it as far as both have the same bytes. Where the size is known, no call copies a block.
+    // Adds bytes. There must be room for all of them. It copies a block of `size` bytes at their
+    // beginning and one at their end; the two may overlap. Where the size is known, no call copies a
+    // block.
     #[inline(always)]
     fn append_ends(&mut self, bytes: &[u8], size: usize)
         requires room { length self.old + length bytes.now ≤ PENDING_LIMIT }
@@ -85,7 +86,7 @@ impl PendingOutput {
         self.buffer.append(&bytes[last..]);
     }
 
-    /// Takes bytes for all of which there is room, however many: it is short where it is inlined.
+    /// Adds any number of bytes. There must be room for all of them. It is short where it is inlined.
     #[inline(always)]
     pub(crate) fn append_many(&mut self, bytes: &[u8])
         requires { length self.old + length bytes.now ≤ PENDING_LIMIT }
@@ -94,8 +95,8 @@ impl PendingOutput {
         self.buffer.append(bytes);
     }
 
-    /// Takes so many bytes of these, from this place on. A whole block is copied, which costs less than a
-    /// call that copies the right number.
+    /// Adds `count` of these bytes, from place `from` on. An entire block is copied, which costs less
+    /// than a call that copies the right number.
     #[inline(always)]
     pub(crate) fn append_few(&mut self, bytes: &[u8], from: usize, count: usize)
         requires room { length self.old + BLOCK ≤ PENDING_LIMIT }
@@ -108,7 +109,7 @@ impl PendingOutput {
         self.buffer.cut(end);
     }
 
-    /// Takes two bytes.
+    /// Adds two bytes.
     #[inline(always)]
     pub(crate) fn push_two(&mut self, a: u8, b: u8)
         requires { length self.old + 2 ≤ PENDING_LIMIT }
@@ -118,7 +119,7 @@ impl PendingOutput {
         self.buffer.push(b);
     }
 
-    /// Takes what was gathered away.
+    /// Empties the buffer.
     #[inline(always)]
     pub(crate) fn clear(&mut self)
         ensures { self.new ≡ [] }

@@ -45,7 +45,7 @@ impl SavedStack {
     ///
     /// # Errors
     ///
-    /// Where they are refused memory. What it holds then isn't said.
+    /// Where they are refused memory. The contents are then unspecified.
     pub fn save(&mut self, stack: &Stack) -> Result<(), AllocError>
         ensures { OnOk result (self.new ≡ stack.now) }
     {
@@ -122,7 +122,7 @@ impl SavedRegisters {
     ///
     /// # Errors
     ///
-    /// Where a growth was refused memory. What it holds then isn't said.
+    /// Where a growth was refused memory. The contents are then unspecified.
     pub fn save(&mut self, registers: &Registers) -> Result<(), AllocError>
         ensures { OnOk result (self.new ≡ registers.now) }
     {

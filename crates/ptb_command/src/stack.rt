@@ -14,8 +14,8 @@ use std::marker::Model;
 pub const NESTING_LIMIT: usize = 256;
 
 /// An open FOR.
-// The place is first: after the smaller parts it is copied together with the gap before it and read
-// back late, and NEXT took 17 ns so, instead of 11.
+// The place is the first field: after the smaller ones it would be copied together with the gap before
+// it and read back late, and NEXT would take 17 ns instead of 11.
 #[derive(Clone, Copy)]
 pub struct OpenLoop {
     /// The command after the FOR, where each turn begins.

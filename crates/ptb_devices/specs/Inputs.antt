@@ -11,9 +11,10 @@
 --     CutsLine a b, CutsAll a b      a line was cut from what has come; all of it was cut, and it ended no line
 --     TakesLine a line b             this line was taken from what has come, and is not kept
 --     TakesWhole a line b            the same for a line that may be there: without one, nothing was done
---     IsReadAhead a taken most       these bytes were taken because fewer than so many lines were whole before the last
---                                    read
---     ReadsOn wanted m given n       the input continued from m to n, and gave these lines; so many more were asked for
+--     IsReadAhead a taken most       these bytes were taken because fewer than `most` lines were complete before the
+--                                    last read
+--     ReadsOn wanted m given n       the input continued from m to n, and gave these lines; `wanted` more were asked
+--                                    for
 --     asked a                        how many lines were asked for that could not be given
 --     fault_at end, Refuses end f    the fault that is answered from there on
 use Rattle.std.specs.Prelude.{◌≡◌, ℕ, ◌+◌, ◌-◌, ◌<◌, ◌≤◌, ◌⊎◌, nat_lt, Bool, true, false}
@@ -135,7 +136,7 @@ abbrev pub input_now : {R : Type 0} → (R → Option (List ℕ)) → (R → ℕ
 input_now remaining given failures state reader =
     record { state = state; bytes = remaining reader; given = given reader; failures = failures reader }
 
--- the last read gave at most as many bytes as the buffer has, and before it fewer than so many lines were whole
+-- the last read gave at most as many bytes as the buffer has, and before it fewer than `most` lines were complete
 pub record IsReadAhead (a : InputState) (taken : List ℕ) (most : ℕ) : Type 0 where
   pub before : List ℕ
   pub piece : List ℕ

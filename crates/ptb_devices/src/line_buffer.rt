@@ -105,7 +105,7 @@ impl LineBuffer {
         matches!(self.end, InputEnd::Open)
     }
 
-    /// Takes the line in front of what has come, if it is whole there, no piece has begun, and the
+    /// Takes the line in front of what has come, if it is complete there, no piece has begun, and the
     /// cleaned line is the same. It is given where it is: nothing is copied.
     #[inline(always)]
     pub(crate) fn take_whole(&mut self) -> Option<&[u8]>
@@ -122,7 +122,8 @@ impl LineBuffer {
         Some(between(&self.bytes, from, from + count))
     }
 
-    /// Cuts a line from what has come, and gives it. Whether there is one: else all is cut.
+    /// Cuts a line from what has come, and gives it. Returns whether there was one; if not, everything
+    /// is cut.
     pub(crate) fn cut_line(&mut self) -> bool
         requires { self.old.is_given ≡ false }
         ensures { MatchBool result (CutsLine self.old self.new) (CutsAll self.old self.new) }
@@ -152,7 +153,7 @@ impl LineBuffer {
         self.is_given
     }
 
-    /// Reads on, where all that has come is cut. Whether there was more.
+    /// Reads more, once everything that has come is cut. Whether there was more.
     ///
     /// # Errors
     ///
@@ -229,7 +230,7 @@ fn line_count(bytes: &[u8]) -> Option<usize>
     None
 }
 
-/// How many bytes in front of these the cleaning leaves as they are, as far as whole blocks tell.
+/// How many bytes in front of these the cleaning leaves as they are, as far as entire blocks show.
 #[inline(always)]
 fn staying_blocks(bytes: &[u8]) -> usize
     ensures stay { StayUpTo bytes.now result }

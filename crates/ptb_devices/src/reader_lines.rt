@@ -12,12 +12,12 @@ use ptb_text::{DeviceFault, Read};
 
 /// The lines of an input, cleaned and cut, each read when it is asked for.
 ///
-/// The reader is read only when a line is asked for and none is whole among the bytes that came: up
+/// The reader is read only when a line is asked for and none is complete among the bytes that came: up
 /// to 4096 bytes at a time, until one is, or the end or a fault comes. After the end or a fault it
 /// isn't read again.
 ///
-/// Of an input with more than [`crate::INPUT_LIMIT`] bytes, the lines that are whole within so many
-/// are given, and then [`DeviceFault::TooLong`] is answered; one byte more was taken. A fault is
+/// Of an input with more than [`crate::INPUT_LIMIT`] bytes, the lines that are complete within that
+/// limit are given, and then [`DeviceFault::TooLong`] is answered; one byte more was taken. A fault is
 /// answered to every call after it, too. No call takes memory.
 #[derive(Drop)]
 pub struct ReaderLines<'a, R> {

@@ -15,7 +15,7 @@ pub const INPUT_LIMIT: usize = 16_777_216;
 /// How many bytes are read at once.
 pub(crate) const BUFFER_SIZE: usize = 4096;
 
-/// Reads the whole input, and cuts it into its cleaned lines.
+/// Reads the entire input, and cuts it into its cleaned lines.
 ///
 /// It takes at most one byte more than an input may have, also from a reader that never ends.
 ///

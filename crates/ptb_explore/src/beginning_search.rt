@@ -10,7 +10,7 @@ use crate::runner::Runner;
 use ptb_machine::run_laws;
 use std::alloc::AllocError;
 
-// Plays a runner's plan on from a copy, but not past the question that follows `most` answers. The
+// Continues a runner's plan from a copy, but not past the question that follows `most` answers. The
 // report has the answers that were taken then, and their bounds. The first answers of the plan are
 // those of the report before, as many as `common` says.
 fn play_beginning(runner: &mut Runner, common: usize, most: usize) -> Result<(), AllocError>

@@ -18,8 +18,8 @@ use std::alloc::{AllocError, Global};
 use std::marker::Model;
 
 /// Finds the lists of answers that split the runs of a program, one after the other, in the order of
-/// their answers: the runs of at most so many answers, and the lists of so many answers that a
-/// question follows.
+/// their answers: the runs of at most `most` answers, and the lists of `most` answers after which the
+/// program asks again.
 ///
 /// No play goes past the question that follows a list. As an [`Explorer`](crate::Explorer) does, it
 /// keeps copies of the machine, so that the next play starts from the last place at which it is the

@@ -26,19 +26,19 @@ pub(crate) struct KeptCopy {
     pub(crate) lines: usize,
 }
 
-/// How many answers the runs took that were played.
+/// How many answers the runs took so far.
 #[derive(Clone, Copy)]
 enum RunLength {
     /// No run took answers yet.
     Unknown,
-    /// Each run took so many.
+    /// Each run took this many.
     Same(usize),
-    /// Not all runs took as many.
+    /// The runs took different numbers.
     Varies,
 }
 
 impl RunLength {
-    // The same with one more run, which took so many answers.
+    // The same with one more run, which took `taken` answers.
     fn with(self, taken: usize) -> RunLength {
         match self {
             RunLength::Unknown if taken == 0 => RunLength::Unknown,
@@ -78,9 +78,8 @@ fn copied(
     }
 }
 
-// Copies a machine into room of its own.
-// Apart from where there is room already, since the room of a machine on the stack is cleared at each
-// call: that took a tenth of a listing's time.
+// Copies a machine into room of its own. Not inlined: a function that has room for a machine on the
+// stack clears that room at each call, which would take a tenth of the time of a listing.
 #[inline(never)]
 fn made_copy(alloc: Global, machine: &Machine) -> Result<Box<Machine>, AllocError>
     ensures { IfOk result (λ b. b.value ≡ machine.now) }
@@ -91,7 +90,7 @@ fn made_copy(alloc: Global, machine: &Machine) -> Result<Box<Machine>, AllocErro
     }
 }
 
-// A machine at the beginning of a run, in room of its own; apart for the same reason.
+// A machine at the beginning of a run, in room of its own; not inlined for the same reason.
 #[inline(never)]
 fn made_first(alloc: Global, player: &Player) -> Result<Box<Machine>, AllocError>
     ensures first { IfOk result (λ b. (input : List (List ℕ)) (choose : Option ℤ) →
@@ -106,7 +105,7 @@ fn made_first(alloc: Global, player: &Player) -> Result<Box<Machine>, AllocError
 
 impl KeptCopy {
     // A copy of it, which takes the room of another machine where there is one.
-    // Inlined, as what calls it for each run is: a result of five words is handed over in memory.
+    // Inlined, as what calls it for each run is: a result of five words is passed in memory.
     #[inline(always)]
     fn copy(&self, alloc: Global, room: Option<Box<Machine>>) -> Result<KeptCopy, AllocError>
         ensures { IfOk result (IsSameCopy self.now) }

@@ -23,7 +23,7 @@ pub enum ExploreFault {
 }
 
 impl ExploreFault {
-    /// The fault of a writing that this fault of a device ended, after so many reports.
+    /// The fault of a listing that this fault of a device ended after `written` reports.
     pub(crate) fn after(fault: DeviceFault, written: u64) -> ExploreFault
         ensures { result ≡ fault_after fault written }
     {

@@ -62,7 +62,7 @@ impl KeptItems {
         &self.items[..self.count]
     }
 
-    /// Keeps so many of the first items.
+    /// Keeps the first `count` items.
     #[inline(always)]
     pub(crate) fn truncate(&mut self, count: usize)
         requires { count ≤ length self.old }

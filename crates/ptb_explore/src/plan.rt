@@ -1,4 +1,4 @@
-// This file has the choice of the answers that the next run begins with.
+// This file plans the next run: it finds the answers with which that run begins.
 
 ghost use Rattle.std.specs.Prelude.{◌≡◌, pos, take, ◌<ℤ◌, slice_index_or, IfOk, IfSome, OnErr, OnSome, MatchOption};
 ghost use Rattle.ptb_explore.specs.Prelude.{answers_of, answers_in, bounds_in, recorded, IsLastBelow, AreAtBounds};
@@ -46,7 +46,7 @@ fn last_below(asked: &[Asked], floor: usize) -> Option<usize>
 /// # Errors
 ///
 /// Where the plan is refused memory; never where no run is left.
-// Inlined, so that its result isn't handed over in memory for each run.
+// Inlined, so that its result isn't passed in memory for each run.
 #[inline(always)]
 pub(crate) fn plan_next(
     position: Position,

@@ -1,4 +1,4 @@
--- This file defines what a saved form of a store stands for.
+-- This file defines which values a saved form of a store represents.
 --     with_zeros n xs     values, and zeros after them, n in all
 use Rattle.std.specs.Prelude.{ℕ, ◌-◌, ℤ, pos, List, ◌++◌, length, replicate}
 

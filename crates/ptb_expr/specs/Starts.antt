@@ -1,8 +1,8 @@
--- This file defines what stands before a part of the grammar, or alone in its place.
---     IsBefore t unary inner outer i j     between i and j stands what makes `outer` of the part `inner` after it
+-- This file defines what is before a part of the grammar, or alone in its place.
+--     IsBefore t unary inner outer i j     between i and j is what makes `outer` of the part `inner` after it
 --     signed sign operator mark xs         the steps xs of a product of a sum, with the operator or the sign before it
 --     signed_room sign operator            how many steps that takes at most
---     BeginsFactor t start i j             between i and j stands what a factor begins with
+--     BeginsFactor t start i j             between i and j is what a factor begins with
 --     start_room start                     how much room is needed for it
 use Rattle.std.specs.Prelude.{ℕ, List, ◌++◌, Option, Some, None}
 use Rattle.ptb_expr.specs.declared.operator.Operator.{Operator}

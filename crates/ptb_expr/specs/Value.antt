@@ -1,7 +1,7 @@
--- This file defines what an expression is worth. The left operand comes first, and hands on the answers that it
--- didn't take.
+-- This file defines the value of an expression. The left operand is evaluated first; the right one gets the
+-- answers that are left.
 --     value c x                the value of the tree x, with the cells c
---     target_of c x            what the tree of a variable names: a letter, or an element whose index is worked out
+--     target_of c x            what the tree of a variable names: a letter, or an element whose index is evaluated
 --     operation op v w         what an operator gives
 --     chosen n                 an answer from 1 to n
 use Rattle.std.specs.Prelude.{ℕ, Bool, not, ◌&&◌, ℤ, pos, ◌+ℤ◌, ◌-ℤ◌, ◌*ℤ◌, Result, Ok, Err}
@@ -20,7 +20,7 @@ use Rattle.ptb_expr.specs.Tree.{Tree, Num, Var, Size, Elem, Rnd, Abs, Neg, Bin, 
 use Rattle.ptb_expr.specs.Store.{Cells, value_at, index_of, element_of, map_ok, with_value, with_element}
 use Rattle.ptb_answers.specs.Outcome.{Answers, Outcome, go_on, ◌>>=◌, success, failure, answer}
 
--- what is worked out from answers: a value or a fault
+-- what is evaluated with answers: a value or a fault
 abbrev pub Work : Type 0 → Type 0
 Work A = Answers → Outcome (Result A Fault) (Unit {0})
 
@@ -84,7 +84,7 @@ value c (Bin op x y m) = value c x >>= λ v. value c y >>= λ w. or_fault (opera
 value c (Bad kind m) = failure (fault kind m)
 value c (Unclosed x m) = value c x >>= λ v. failure (fault What m)
 
--- a variable's index is worked out, and is in its range
+-- a variable's index is evaluated, and is in its range
 unfoldable pub target_of : Cells → Tree → Work Target
 target_of c (Var x) = success (targets.Var x)
 target_of c (Elem x m) = value c x >>= λ i. or_fault (map_ok targets.Element (index_of c.size i)) m

@@ -21,7 +21,7 @@ pub fn mark_laws()
     finding_laws();
 }
 
-/// Working out a tree takes answers one by one, at most one for each of its RNDs.
+/// Evaluating a tree takes answers one by one, at most one for each of its RNDs.
 #[tactic(auto, using(crate::proofs::ValueReads::value_laws))]
 pub fn value_laws()
     ensures { ValueLaws }

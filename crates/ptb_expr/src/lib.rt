@@ -1,13 +1,13 @@
 //! Expressions of Tiny BASIC: the store of variables and array, and expressions, which are read
 //! (`reader.rt`) into steps and run (`step_runner.rt`).
 //!
-//! It stands on `ptb_text` and `ptb_answers`. The crate above may rely on `evaluate` and `target`:
+//! It depends on `ptb_text` and `ptb_answers`. The crate above may rely on `evaluate` and `target`:
 //! whoever answers, their result is the one that `specs/Value` gives the tree that `specs/Spells`
 //! reads at the cursor, a value, a fault with its mark or a question. So is the result of
 //! `evaluate_in`, which is lent the room for the steps. What is evaluated often is read once, by
 //! `read_value` and `read_variable`; `run_steps` runs the steps, and `plain_value` runs those that
 //! ask nothing and have a value; `single_value` is for one step. A `ShortValue` has the value of a
-//! few steps without a loop over them. The crate passes on what `ptb_answers` has: the choosers,
+//! few steps without a loop over them. The crate re-exports what `ptb_answers` has: the choosers,
 //! the rules of a run, and the forms of lists of answers.
 #![tactic(auto)]
 

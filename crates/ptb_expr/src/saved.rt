@@ -9,7 +9,7 @@ use crate::store::{Store, mixed};
 use std::alloc::{AllocError, Global};
 use std::marker::Model;
 
-/// The values of a store. It takes memory for the elements up to the last one in use alone.
+/// The values of a store. It takes memory only for the elements up to the last one in use.
 #[derive(Drop)]
 pub struct SavedStore {
     size: i16,
@@ -101,7 +101,7 @@ impl SavedStore {
     ///
     /// # Errors
     ///
-    /// Where the elements are refused memory. What it holds then isn't said.
+    /// Where the elements are refused memory. The contents are then unspecified.
     pub fn save(&mut self, store: &Store) -> Result<(), AllocError>
         ensures { OnOk result (self.new ≡ store.now) }
     {

@@ -1,4 +1,4 @@
--- This file defines whole runs.
+-- This file defines complete runs.
 --     turn p limit S           the next thing that a run does
 --     all_turns p limit S a    the last state of a run, and its ending there
 --     play p input rules a     the result of a run of the program p with the answers a

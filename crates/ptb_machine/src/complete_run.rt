@@ -1,4 +1,4 @@
-// This file does whole runs.
+// This file does complete runs, by `run` and `run_to_end`.
 
 ghost use Rattle.std.specs.Prelude.{◌≡◌, ℕ, ℤ, List, Option, false, IfOk};
 ghost use Rattle.ptb_machine.specs.Prelude.{Represents, first_state, run_devices, IsRun, IsRunToEnd, FitsProgram};
@@ -19,8 +19,8 @@ use std::alloc::{AllocError, Global};
 ///
 /// [`RunFault::Memory`], [`RunFault::Read`] and [`RunFault::Write`] where a growth was refused
 /// memory, the input could not be read or is too long, or the screen could not be written. A prefix
-/// of what the run shows may have been shown then. Never [`RunFault::Spent`]. A write that fails is
-/// answered in no other way.
+/// of what the run shows may have been shown then. Never [`RunFault::Spent`]. A failed write always
+/// gives [`RunFault::Write`].
 pub fn run<C: Chooser, S: Screen, L: LineSource>(
     alloc: Global,
     program: &Program,

@@ -3,7 +3,7 @@
 //! program that is played once is a run over a reader and a writer. Commands that ask nothing are
 //! done one after the other by their short forms (`advance.rt`).
 //!
-//! It stands on `ptb_command`, `ptb_devices`, `ptb_expr`, `ptb_answers`, `ptb_text`, `arrayvec`,
+//! It depends on `ptb_command`, `ptb_devices`, `ptb_expr`, `ptb_answers`, `ptb_text`, `arrayvec`,
 //! `itoa`, `thiserror` and `rand_pcg`. The crate above may rely on `Machine::step` (one turn of
 //! `specs/Play`: the state after it, what it shows, the lines and answers it takes), on
 //! `Player::step` (the same by the code of the program, without its text), on `Player::advance`
@@ -13,7 +13,7 @@
 //! was), on `run_plain_to_end` and `run_seeded_to_end` (the same, and the line at which a limit
 //! stopped the run), on `seeded_laws` (what a seed draws), on `SavedMachine` (where a machine is,
 //! in little memory, to which it can be restored), on `run_laws` (answers are taken one by one, a
-//! limited number of them), and on what it passes on of the crates below.
+//! limited number of them), and on what it re-exports of the crates below.
 #![tactic(auto)]
 
 mod advance;

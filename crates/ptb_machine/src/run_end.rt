@@ -7,7 +7,7 @@ use ptb_command::Ending;
 pub struct RunEnd {
     /// How it ended.
     pub ending: Ending,
-    /// Where it ended at its limit, the number of the statement in which its next command begins.
+    /// If it ended at its limit, the number of the statement in which its next command begins.
     /// No other ending has a line.
     pub line: Option<u16>,
 }

@@ -48,7 +48,7 @@ impl SavedMachine {
     ///
     /// # Errors
     ///
-    /// [`AllocError`] where a growth was refused memory. What it holds then isn't said.
+    /// [`AllocError`] where a growth was refused memory. The contents are then unspecified.
     pub fn save(&mut self, machine: &Machine) -> Result<(), AllocError>
         ensures { OnOk result (self.new ≡ machine.now) }
     {
@@ -58,7 +58,7 @@ impl SavedMachine {
         self.registers.save(&machine.registers)
     }
 
-    /// Whether another one is of the same machine. Machines that hold the same play on in the same
+    /// Whether another one is of the same machine. Machines with the same contents continue in the same
     /// way.
     pub fn is_same(&self, other: &SavedMachine) -> bool
         ensures { IsTrue result ↔ (self.now ≡ other.now) }

@@ -8,11 +8,11 @@
 --     GivesExactly old new n             n bytes more were given
 --     GivesAtMost old new n              at most n bytes more were given
 --     CountsBytes old new result         the bytes of a read are counted, and a fault gives none
---     IsCounted old new n                so many bytes were given over several reads, or none
+--     IsCounted old new n                n bytes were given over several reads, or none
 --     device_inner d                     the device that is counted
 --     failure_count d, given_count d     how often it has failed, and how many bytes it has given
 --     IsReliableDevice reliable d        the device's reader is reliable
---     DeviceTakes takes d n              the device's writer takes so many bytes without failing
+--     DeviceTakes takes d n              the device's writer takes n bytes without failing
 use Rattle.std.specs.Prelude.{◌≡◌, ℕ, ◌+◌, ◌-◌, ◌^◌, ◌<◌, ◌≤◌, ◌⊎◌, min, List, ◌++◌, length, take}
 use Rattle.std.specs.Prelude.{Option, Result, IsOkAnd, MatchResult}
 use Rattle.std.specs.Io.KnownBytes.{Appends}
@@ -52,11 +52,11 @@ TakesSurely old new bytes result =
 abbrev pub given_limit : ℕ
 given_limit = 2 ^ 64 - 1
 
--- so many bytes more were given, by a count that stays at its limit where it would pass it
+-- n more bytes were given, by a count that stays at its limit where it would pass it
 abbrev pub GivesExactly : ℕ → ℕ → ℕ → Type 0
 GivesExactly old new n = new ≡ min (old + n) given_limit
 
--- the count didn't fall, and rose by at most so many
+-- the count didn't fall, and rose by at most n
 abbrev pub GivesAtMost : ℕ → ℕ → ℕ → Type 0
 GivesAtMost old new n = (old ≤ new) × (new ≤ old + n)
 
@@ -64,7 +64,7 @@ GivesAtMost old new n = (old ≤ new) × (new ≤ old + n)
 abbrev pub CountsBytes : {E : Type 0} → ℕ → ℕ → Result ℕ E → Type 0
 CountsBytes old new result = (old ≤ given_limit) × MatchResult result (GivesExactly old new) (λ _. new ≡ old)
 
--- so many bytes were given, by a count that is known to be within its limit once some were
+-- n bytes were given, by a count that is known to be within its limit once some were
 pub record IsCounted (old new n : ℕ) : Type 0 where
   pub at_most : GivesAtMost old new n
   pub exactly : 0 < n → GivesExactly old new n
@@ -85,6 +85,6 @@ given_count d = d.given
 abbrev pub IsReliableDevice : {T : Type 0} → (T → Type 0) → Device T → Type 0
 IsReliableDevice reliable d = reliable (device_inner d) × (failure_count d < failure_limit)
 
--- its writer takes so many bytes without failing, and it has not failed for good
+-- its writer takes n bytes without failing, and it has not failed for good
 abbrev pub DeviceTakes : {T : Type 0} → (T → ℕ → Type 0) → Device T → ℕ → Type 0
 DeviceTakes takes d n = takes (device_inner d) n × (failure_count d < failure_limit)

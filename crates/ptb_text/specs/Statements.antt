@@ -9,7 +9,7 @@
 --     IsSound p, IsText t                            what every stored program keeps, and each of its texts
 --     after_line p memory line                       the map after a line is entered, or why the line is refused
 --     text_after_number line, HasText line          the text that a line is to store; it has one
---     program memory b                               the map that a whole text gives, or which source line is refused
+--     program memory b                               the map that an entire text gives, or which source line is refused
 --                                                    first, and why
 --     listing p                                      the program as text
 --     is_program p                                   whether a list of pairs is such a map
@@ -115,7 +115,7 @@ text_after_number line = let t = trim_start line in trim_start (drop (prefix_len
 abbrev pub HasText : List ℕ → Type 0
 HasText line = 0 < length (text_after_number line)
 
--- ---- a whole text
+-- ---- an entire text
 
 -- lines are entered one after the other, from source line k on, up to the first refusal
 unfoldable pub after_lines : List (List ℕ) → ℕ → Statements → ℕ → Result Statements (ℕ × LoadFault)

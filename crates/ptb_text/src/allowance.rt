@@ -13,7 +13,7 @@ use std::marker::Model;
 pub enum Piece {
     /// Nothing: it is at its end.
     End,
-    /// So many bytes, at least one. They are at the front of the buffer.
+    /// This many bytes, at least one, are at the front of the buffer.
     Bytes(usize),
     /// More bytes than are allowed.
     TooLong,
@@ -35,7 +35,7 @@ impl Model for Allowance {
 }
 
 impl Allowance {
-    /// What may be taken where so many bytes are allowed.
+    /// An allowance of `limit` bytes.
     pub fn new(limit: usize) -> Self
         requires { limit < 2 ^ 64 - 1 }
         ensures { result ≡ limit + 1 }

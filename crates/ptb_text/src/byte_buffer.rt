@@ -1,4 +1,5 @@
-// This file has the bytes that wait to be written or shown: at most so many, without memory.
+// This file has a buffer of bytes that wait to be written or shown. Its capacity is fixed, and it takes
+// no memory.
 
 ghost use Rattle.std.specs.Prelude.{◌≡◌, ◌↔◌, ◌+◌, ◌<◌, ◌≤◌, ◌∷◌, ◌++◌, [], length, take};
 ghost use Rattle.std.specs.Prelude.{IsTrue, IsFalse};
@@ -60,7 +61,7 @@ impl<const N: usize> ByteBuffer<N> {
         &self.bytes[..self.count]
     }
 
-    /// Cuts it, so that so many bytes are left.
+    /// Keeps the first `count` bytes, and drops the others.
     #[inline(always)]
     pub fn cut(&mut self, count: usize)
         requires { count ≤ length self.old }
@@ -69,7 +70,7 @@ impl<const N: usize> ByteBuffer<N> {
         self.count = count;
     }
 
-    /// Takes all bytes away.
+    /// Drops all bytes.
     #[inline(always)]
     pub fn clear(&mut self)
         ensures { self.new ≡ [] }
@@ -89,7 +90,7 @@ impl<const N: usize> ByteBuffer<N> {
         self.count = at + 1;
     }
 
-    /// Adds bytes for all of which there is room.
+    /// Adds bytes. There must be room for all of them.
     #[inline(always)]
     pub fn append(&mut self, bytes: &[u8])
         requires { length self.old + length bytes.now ≤ N }

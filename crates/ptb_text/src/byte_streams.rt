@@ -14,7 +14,7 @@ pub trait ByteSource {
     /// The bytes that it will give from here on to its end, where they are known.
     ghost remaining: { Self → Option (List ℕ) } = { λ _. None };
 
-    /// That none of its reads fails, from here on to its end. False where nobody knows it.
+    /// Whether it is known that none of its reads fails, from here on to its end.
     ghost reliable: { Self → Type 0 } = { λ _. ⊥ };
 
     /// Puts its next bytes at the front of `buf`, and answers how many, as `read` of [`io::Read`]
@@ -34,7 +34,7 @@ pub trait ByteSink {
     /// The bytes that it has taken, where they are known.
     ghost contents: { Self → Option (List ℕ) } = { λ _. None };
 
-    /// That it takes so many bytes more without failing. False where nobody knows it.
+    /// Whether it is known to take this many more bytes without failing.
     ghost takes: { Self → ℕ → Type 0 } = { λ _ n. ⊥ };
 
     /// Takes bytes from the front of `bytes`, and answers how many, as `write` of [`io::Write`] does.
@@ -94,7 +94,7 @@ impl ByteSink for &mut [u8] {
 impl<A: Allocator> ByteSink for Vec<u8, A> {
     ghost contents = { λ v. Some v.items };
 
-    // A vector takes as many bytes as it has capacity left. Whether it can grow, nobody knows.
+    // A vector takes as many bytes as it has capacity left. Whether it can grow is not known.
     ghost takes = { λ v n. vec_len v + n ≤ vec_capacity v };
 
     fn write(&mut self, bytes: &[u8]) -> io::Result<usize> {

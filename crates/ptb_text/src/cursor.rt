@@ -80,7 +80,7 @@ impl<'a> Cursor<'a> {
         let _within = self.place;
     }
 
-    /// The whole text.
+    /// The entire text.
     pub fn text(&self) -> &'a [u8]
         ensures { result.now ≡ self.now.text }
     {
@@ -243,7 +243,7 @@ impl<'a> Cursor<'a> {
         }
     }
 
-    /// Takes the first word of the table that is next, whole or cut with a period.
+    /// Takes the first word of the table that is next, complete or abbreviated with a period.
     #[inline(always)]
     pub fn word(&mut self, table: Table) -> Option<Word>
         ensures value { word_at table self.old.text self.old.place

@@ -16,7 +16,7 @@ use crate::device_fault::DeviceFault;
 /// changes it. The count ends at `u64::MAX`; a reader that has reached it answers the fault to each
 /// call.
 ///
-/// Its bytes are counted, too, also where nobody knows which will come: a call that gives some adds
+/// Its bytes are counted, too, also where it is not known which will come: a call that gives some adds
 /// how many, and no other call changes the count. It stays at `u64::MAX` where it would pass it.
 pub trait Read {
     /// The bytes that it will give from here on to its end, where they are known.
@@ -28,7 +28,7 @@ pub trait Read {
     /// How many bytes it has given.
     ghost given: { Self → ℕ };
 
-    /// That none of its reads fails, from here on to its end. False where nobody knows it.
+    /// Whether it is known that none of its reads fails, from here on to its end.
     ghost reliable: { Self → Type 0 } = { λ _. ⊥ };
 
     /// Puts its next bytes at the front of `buf`, and answers how many. `Ok(0)` for a buffer that
@@ -56,7 +56,7 @@ pub trait Write {
     /// How often it has failed.
     ghost failures: { Self → ℕ };
 
-    /// That it takes so many bytes more without failing. False where nobody knows it.
+    /// Whether it is known to take this many more bytes without failing.
     ghost takes: { Self → ℕ → Type 0 } = { λ _ n. ⊥ };
 
     /// Takes bytes from the front of `bytes`, and answers how many: at least one, if there is one.

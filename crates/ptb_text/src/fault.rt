@@ -1,8 +1,8 @@
-// This file says why a program line, or a whole program text, is refused.
+// This file says why a program line, or an entire program text, is refused.
 
 use thiserror::Error;
 
-/// Why a program line, or a whole program text, is refused.
+/// Why a program line, or an entire program text, is refused.
 #[derive(Clone, Copy, Debug, PartialEq, Eq, Error)]
 pub enum LoadFault {
     /// A line doesn't begin with a number of at least 1.

@@ -22,8 +22,8 @@ pub(crate) struct NumberedLine<'a> {
 ///
 /// # Errors
 ///
-/// `BadByte` for the first byte that doesn't print; else `NoNumber` where no number of at least 1
-/// is in front; else `NumberTooBig` for a number over 32767.
+/// `BadByte` for the first byte that doesn't print; otherwise `NoNumber` if no number of at least 1
+/// is in front; otherwise `NumberTooBig` for a number over 32767.
 pub(crate) fn numbered_line(line: &[u8]) -> Result<Option<NumberedLine<'_>>, LoadFault>
     ensures { MatchResult result
         (λ found. MatchOption found (EntersNothing line.now)

@@ -13,13 +13,13 @@ use itoa::Buffer;
 const LINE_ROOM: usize = 262;
 
 /// Writes the statements in rising order, each as its number in decimals, a space, its text and
-/// the byte 10. Each line is handed to the writer as a whole; no memory is taken.
+/// the byte 10. Each line is passed to the writer in one piece; no memory is taken.
 ///
 /// Loading what is written gives the program back.
 ///
 /// # Errors
 ///
-/// [`DeviceFault::Write`] where the writer failed. A beginning of the listing was written then.
+/// [`DeviceFault::Write`] where the writer failed. A prefix of the listing was written then.
 pub fn list<W: Write>(program: &Program, writer: &mut W) -> Result<(), DeviceFault>
     ensures ok { OnOk result
         (Appends (W.contents writer.old) (W.contents writer.new) (listing program.now.lines)) }

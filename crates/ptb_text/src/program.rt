@@ -122,7 +122,7 @@ impl Program {
         self.search(number).ok()
     }
 
-    /// The number and the text of the statement that follows so many others, if there is one.
+    /// The number and the text of the statement that has `index` others before it, if there is one.
     pub fn get(&self, index: usize) -> Option<(i16, &[u8])>
         ensures value { option_map {U = ℤ × List ℕ} (λ s. (s.0, s.1.now)) result
             ≡ statement_at self.now.lines index }

@@ -1,4 +1,4 @@
-// This file finds the words of the tables in a text.
+// This file finds the words of the language in a text.
 
 ghost use Rattle.std.specs.Prelude.{◌≡◌, ◌+◌, ◌<◌, ◌≤◌, [], ◌∷◌, length, IsTrue, IfSome};
 ghost use Rattle.std.specs.Prelude.{option_map, drop, not, ◌==◌, ◌||◌, nat_le};
@@ -8,9 +8,8 @@ ghost use Rattle.ptb_text.specs.Words.{spelling_in_front, words, IsCommand, IsFu
 
 use crate::word::{Table, Word};
 
-// All that looks for a command's word is inlined, for a result that a call hands over in memory is
-// read back late. With it and the variable of LET inlined, a command that is read took 20 ns in a
-// loop of LET, IF and GOTO, and 31 before.
+// All that looks for a command's word is inlined: a result that a call passes in memory is read back
+// late.
 
 // what follows a word that is cut
 const PERIOD: u8 = b'.';

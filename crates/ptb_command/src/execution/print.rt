@@ -20,7 +20,7 @@ use ptb_expr::{Step, Steps, Store};
 pub const FIRST_WIDTH: u8 = 6;
 
 /// What a command has gathered, and the width of the values that it shows. It is lent to one command
-/// after the other: to make one takes longer than to begin again with it.
+/// after the other: making one takes longer than emptying it.
 #[derive(Drop)]
 pub struct Output {
     /// The bytes that are shown later.
