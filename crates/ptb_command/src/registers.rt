@@ -68,6 +68,7 @@ impl Registers {
     /// # Errors
     ///
     /// [`AllocError`] where there is no memory for the array. They hold what they held then.
+    #[inline(always)]
     pub fn copy_from(&mut self, alloc: Global, other: &Registers) -> Result<(), AllocError>
         ensures ok { OnOk result (self.new ≡ other.now) }
         ensures same_size { self.old.store.size ≡ other.now.store.size → IsOk result }

@@ -109,6 +109,7 @@ impl Store {
     /// # Errors
     ///
     /// Where the array is refused memory. Its values stay then.
+    #[inline(always)]
     pub fn copy_from(&mut self, alloc: Global, other: &Store) -> Result<(), AllocError>
         ensures ok { OnOk result (self.new ≡ other.now) }
         ensures same_size { self.old.size ≡ other.now.size → IsOk result }
