@@ -5,6 +5,8 @@ use Rattle.std.proofs.Common.{Ok, Err, is_err, inl, refl, sym, ap, subst}
 use Rattle.ptb_expr.specs.declared.fault.Fault.{Fault}
 use Rattle.ptb_expr.specs.declared.fault.FaultKind.{FaultKind}
 use Rattle.ptb_answers.specs.declared.pause.Pause.TheVariants as pauses
+use Rattle.ptb_answers.specs.declared.rules.Rules.{Rules}
+use Rattle.ptb_command.specs.declared.command_io.CommandIo.{CommandIo}
 use Rattle.ptb_command.specs.declared.ending.Ending.{Ending}
 use Rattle.ptb_machine.specs.declared.fault.RunFault.{RunFault}
 use Rattle.ptb_machine.specs.declared.fault.RunFault.TheVariants as faults
@@ -18,6 +20,7 @@ use Rattle.ptb_command.specs.Reports.{IsShown}
 use Rattle.ptb_command.specs.Stops.{UnlessMissed, miss_of}
 use Rattle.ptb_command.proofs.MissedLines.{miss_unmissed}
 use Rattle.ptb_machine.specs.CommandResults.{reported, stopped, IsResultOf}
+use Rattle.ptb_machine.specs.RunDevices.{RunDevices, run_devices, lent}
 use Rattle.ptb_machine.specs.Steps.{step_miss}
 
 -- nothing is shown where it was done, or stopped by s
@@ -151,3 +154,14 @@ pub at_devices : {C S L : Type 0} (P : C → S → L → Type 0) {x : C} {y : S}
     → y ≡ s → z ≡ l → P c s l → P x y z
 at_devices P {x = x} {y = y} {z = z} c s l e k h p =
     subst (λ a. P a y z) (sym e) (subst (λ a. P c a z) (sym k) (subst (λ a. P c s a) (sym h) p))
+
+-- what holds of devices that are taken together holds of them one by one
+pub at_lent : {C S L : Type 0} (P : Rules → RunDevices C S L → RunDevices C S L → Type 0) (rules : Rules)
+    (i n : CommandIo C S L) {c x : C} {s y : S} {l z : L}
+    → i.rules ≡ rules → i.chooser.now ≡ c → i.screen.now ≡ s → i.source.now ≡ l
+    → x ≡ n.chooser.now → y ≡ n.screen.now → z ≡ n.source.now
+    → P i.rules (lent i) (lent n) → P rules (run_devices c s l) (run_devices x y z)
+at_lent P rules i n {c = c} {s = s} {l = l} same c1 s1 l1 c2 s2 l2 h =
+    at_devices (λ a b d. P rules (run_devices c s l) (run_devices a b d)) n.chooser.now n.screen.now n.source.now c2 s2
+    l2 (at_devices (λ a b d. P rules (run_devices a b d) (lent n)) i.chooser.now i.screen.now i.source.now (sym c1)
+    (sym s1) (sym l1) (subst (λ (k : Rules). P k (lent i) (lent n)) same h))

@@ -9,6 +9,7 @@ pub use Rattle.ptb_text.specs.Statements.{Statements, StoredProgram, size_of}
 pub use Rattle.ptb_text.specs.Words.{is_over}
 pub use Rattle.ptb_command.specs.Act.{ending_of, report_bytes, statement}
 pub use Rattle.ptb_command.specs.Code.{steps_at, Code}
+pub use Rattle.ptb_command.specs.CommandIo.{SameBorrows}
 pub use Rattle.ptb_command.specs.Devices.{Devices, screen_state, with_screen}
 pub use Rattle.ptb_command.specs.Executed.{code_of}
 pub use Rattle.ptb_command.specs.Execution.{IsQuiet, ContinuesAt}
@@ -32,7 +33,7 @@ pub use Rattle.ptb_machine.specs.Play.{play, next_number}
 pub use Rattle.ptb_machine.specs.Positions.{IsFound, IsLedTo, Stands, standing}
 pub use Rattle.ptb_machine.specs.ProgramCode.{IsNextCode, IsCodeTable, IsProgramCode, IsCommandAt, HasShortForms}
 pub use Rattle.ptb_machine.specs.ProgramCode.{code_from}
-pub use Rattle.ptb_machine.specs.RunDevices.{run_devices}
+pub use Rattle.ptb_machine.specs.RunDevices.{lent, run_devices}
 pub use Rattle.ptb_machine.specs.Runs.{IsRun, IsRunToEnd, ending_alone}
 pub use Rattle.ptb_machine.specs.SeededRuns.{IsDrawn, SeededLaws}
 pub use Rattle.ptb_machine.specs.ShortForms.{beginning, place_by, IsSet, IsSetElement, IsIf, IsLastIf, IsGosub}

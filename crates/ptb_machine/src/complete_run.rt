@@ -2,13 +2,14 @@
 
 ghost use Rattle.std.specs.Prelude.{◌≡◌, ℕ, ℤ, List, Option, false, IfOk};
 ghost use Rattle.ptb_machine.specs.Prelude.{Represents, first_state, run_devices, IsRun, IsRunToEnd, FitsProgram};
+ghost use Rattle.ptb_machine.specs.Prelude.{SameBorrows, lent};
 
 use crate::fault::RunFault;
 use crate::machine::Machine;
 use crate::player::Player;
 use crate::run_end::RunEnd;
 use ptb_answers::{Chooser, Rules};
-use ptb_command::Ending;
+use ptb_command::{CommandIo, Ending};
 use ptb_devices::{LineSource, Screen};
 use ptb_text::Program;
 use std::alloc::{AllocError, Global};
@@ -55,7 +56,8 @@ pub fn run_to_end<C: Chooser, S: Screen, L: LineSource>(
         (run_devices chooser.new screen.new source.new) result }
 {
     let (mut player, mut machine) = begun(alloc, program)?;
-    play(&mut player, &mut machine, rules, chooser, screen, source)
+    let mut io = CommandIo::new(chooser, screen, source, true, rules);
+    play(&mut player, &mut machine, &mut io)
 }
 
 // A player of a program, and a machine at the beginning of its run.
@@ -75,22 +77,19 @@ fn begun(alloc: Global, program: &Program) -> Result<(Player<'_>, Machine), Allo
 fn play<C: Chooser, S: Screen, L: LineSource>(
     player: &mut Player<'_>,
     machine: &mut Machine,
-    rules: Rules,
-    chooser: &mut C,
-    screen: &mut S,
-    source: &mut L,
+    io: &mut CommandIo<'_, C, S, L>,
 ) -> Result<RunEnd, RunFault>
     requires first { (input : List (List ℕ)) (choose : Option ℤ) →
         Represents player.old.lines machine.old (first_state player.old input choose) }
     requires fits { FitsProgram player.old machine.old }
     requires unspent { machine.old.spent ≡ false }
-    ensures { IsRunToEnd C.Chooser S.Screen L.LineSource player.old rules
-        (run_devices chooser.old screen.old source.old)
-        (run_devices chooser.new screen.new source.new) result }
+    ensures run { IsRunToEnd C.Chooser S.Screen L.LineSource player.old io.old.rules
+        (lent io.old) (lent io.new) result }
+    ensures same { SameBorrows io.old io.new }
 {
     'steps: loop {
-        player.advance(machine, rules.limit);
-        if let Some(ending) = player.step(machine, rules, chooser, screen, source)? {
+        player.advance(machine, io.rules.limit);
+        if let Some(ending) = player.step_on(machine, io)? {
             return Ok(player.end(machine, ending));
         }
     }

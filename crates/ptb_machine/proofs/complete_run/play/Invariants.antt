@@ -1,6 +1,7 @@
 -- This file says what a run has come to before each step.
 use Rattle.std.proofs.Common.{◌≡◌, ◌-◌, false}
-use Rattle.ptb_machine.specs.RunDevices.{run_devices}
+use Rattle.ptb_command.specs.CommandIo.{SameBorrows}
+use Rattle.ptb_machine.specs.RunDevices.{lent}
 use Rattle.ptb_machine.specs.Steps.{FitsProgram}
 use Rattle.ptb_machine.proofs.Underway.{IsUnderway}
 use Rattle.ptb_machine.proofs.complete_run.play.Given as goal
@@ -8,8 +9,8 @@ use Rattle.ptb_machine.proofs.complete_run.play.Given as goal
 abbrev pub invariant-steps : goal.invariant-steps
 invariant-steps g l =
     (l.player ≡ l.fn.player) × FitsProgram l.player l.machine × (l.machine.spent ≡ false)
-    × IsUnderway g.C.Chooser g.S.Screen g.L.LineSource l.player l.rules l.machine
-    (run_devices l.fn.chooser l.fn.screen l.fn.source) (run_devices l.chooser l.screen l.source)
+    × IsUnderway g.C.Chooser g.S.Screen g.L.LineSource l.player l.fn.io.rules l.machine
+    (lent l.fn.io) (lent l.io) × SameBorrows l.fn.io l.io
 
 abbrev pub decreases-steps : goal.decreases-steps
-decreases-steps g l = l.rules.limit - l.machine.steps
+decreases-steps g l = l.fn.io.rules.limit - l.machine.steps

@@ -1,8 +1,10 @@
 -- This file answers what is left to prove of `run_to_end`.
-use Rattle.std.proofs.Common.{[], arith, inl, refl}
+use Rattle.std.proofs.Common.{[], arith, inl, refl, rules}
 use Rattle.ptb_command.proofs.MissedLines.{not_missed}
 use Rattle.ptb_machine.specs.RunDevices.{run_devices}
+use Rattle.ptb_machine.specs.Runs.{IsRunToEnd}
 use Rattle.ptb_machine.proofs.Ends.{end_broken}
+use Rattle.ptb_machine.proofs.Results.{at_lent}
 use Rattle.ptb_machine.proofs.complete_run.run_to_end.Goals as goal
 
 pub returns-in_err-player : goal.returns-in_err-player
@@ -17,4 +19,8 @@ returns-in_err-player g c =
     })
 
 pub returns : goal.returns
-returns g c = rw c.in_ok-player.ensures.player at c.play.ensures
+returns g c =
+    at_lent (λ k o n. IsRunToEnd g.C.Chooser g.S.Screen g.L.LineSource c.args.program.now k o n c.play.result)
+    c.args.rules c.new-io.result c.play.new.io
+    c.new-io.ensures.rules c.new-io.ensures.chooser_now c.new-io.ensures.screen_now c.new-io.ensures.source_now
+    (search rules) (search rules) (search rules) (rw c.in_ok-player.ensures.player at c.play.ensures.run)
