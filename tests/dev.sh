@@ -47,7 +47,7 @@ count_if 'test' starts 'tests/all.sh <> in a copy, no jobs' test
 count_if 'test of one script' starts 'tests/stress.sh <7> <60> in a copy, no jobs' test stress.sh 7 60
 count_if 'bench' starts 'bench/time.sh <a> in a copy, no jobs' bench time.sh a
 count_if 'gate' starts 'rt <ci> in a copy, 4 jobs' gate
-RT_JOBS=2 count_if 'gate with other jobs' starts 'rt <ci> <ptb_text> in a copy, 2 jobs' gate ptb_text
+RT_JOBS=2 count_if 'gate with other jobs' starts 'rt <ci> in a copy, 2 jobs' gate
 count_if 'release' starts 'tools/release <../release> in a copy, no jobs' release ../release
 for argument in '' nosuch; do
     count_if "check needs a crate, not '$argument'" refuses "no crate '$argument'" check $argument
