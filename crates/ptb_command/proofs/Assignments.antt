@@ -1,17 +1,13 @@
--- This file proves what the assignments of LET are, by what is there, and their results.
+-- This file proves the results of the assignments of LET.
 -- Main lemma: `assign_refines_part`.
-use Rattle.std.proofs.Common.{◌≡◌, ℕ, Bool, List, [], ◌∷◌, Option, Some, None, ℤ, refl, sym, ap, subst, ◌∙◌}
-use Rattle.ptb_text.specs.Words.{token_at}
-use Rattle.ptb_expr.specs.declared.fault.FaultKind.TheVariants.{What}
+use Rattle.std.proofs.Common.{◌≡◌, ℕ, Bool, List, [], ◌∷◌, ℤ, sym, ap, subst, ◌∙◌}
 use Rattle.ptb_expr.specs.declared.store.Target.{Target}
 use Rattle.ptb_expr.specs.Store.{Cells}
-use Rattle.ptb_expr.specs.Tree.{Tree, Bad}
-use Rattle.ptb_expr.specs.Reading.{Reading, Whole, Malformed, item_of, after as after_reading}
-use Rattle.ptb_expr.specs.Reading.{expression, variable_tree}
+use Rattle.ptb_expr.specs.Tree.{Tree}
 use Rattle.ptb_expr.specs.Value.{value, with_target}
 use Rattle.ptb_command.specs.declared.stop.Stop.{Stop}
-use Rattle.ptb_command.specs.Commands.{Part, Assign, value_part, assignment}
-use Rattle.ptb_command.specs.State.{State}
+use Rattle.ptb_code.specs.Commands.{Part, Assign}
+use Rattle.ptb_code.specs.State.{State}
 use Rattle.ptb_command.specs.Actions.{Action, and_then, goes_on}
 use Rattle.ptb_command.specs.Act.{value_action, target_action, store, parts_action}
 use Rattle.ptb_command.specs.Devices.{Devices, no_exchange, Refusal}
@@ -23,29 +19,6 @@ use Rattle.ptb_command.proofs.PartRefinement.{leaves_to, leaves_itself, after_no
 use Rattle.ptb_command.proofs.PartRefinement.{freshens_nothing, refines_part_then}
 use Rattle.ptb_command.proofs.Stops.{Adds, parts_add, stops_after}
 use Rattle.ptb_command.proofs.Actions.{then_adds, work_action_adds, refines_part_on, stops_first}
-use Rattle.ptb_command.proofs.Items.{item_mapped}
-
--- ---- an assignment
-
-value_is : (t : List ℕ) (x : Tree) (j : ℕ) (o : Option ℕ) → (y : Tree) × (item_of (value_part t x j o) ≡ Assign x y)
-value_is t x j (Some k) = (item_of (expression t k), item_mapped (Assign x) (expression t k))
-value_is t x j None = (Bad What j, refl)
-
-variable_and : List ℕ → ℕ → Reading Tree → Reading Part
-variable_and t i r = after_reading r (λ x. Assign x (Bad What i)) (λ x j. value_part t x j (token_at 61 t j))
-
-assign_is : (t : List ℕ) (i : ℕ) (r : Reading Tree) → (y : Tree) × (item_of (variable_and t i r) ≡ Assign (item_of r) y)
-unfolding variable_and
-assign_is t i (Whole x j) = value_is t x j (token_at 61 t j)
-assign_is t i (Malformed x) = (Bad What i, refl)
-
-module _ (t : List ℕ) (i : ℕ) where
-  -- its variable comes first, whatever follows
-  pub assigns_something : (y : Tree) × (item_of (assignment t i) ≡ Assign (item_of (variable_tree t i)) y)
-  unfolding assignment variable_and
-  assigns_something = assign_is t i (variable_tree t i)
-
--- ---- the result
 
 -- a value is stored
 pub store_refines_part : (d : Devices) (fresh : Bool) (due : List ℕ) (c e : Cells) (at : Target) (v : ℤ)

@@ -4,7 +4,7 @@
 --     act p q c                        an entire command, whose fault is reported
 use Rattle.std.specs.Prelude.{ℕ, ◌+◌, ◌-◌, Bool, true, false, not, ◌||◌, ◌==◌, nat_le}
 use Rattle.std.specs.Prelude.{if◌then◌else◌, List, [], ◌∷◌, ◌++◌, length, take, drop, filter}
-use Rattle.std.specs.Prelude.{replicate, slice_index, Option, Some, None, is_some, Result, Ok, Err}
+use Rattle.std.specs.Prelude.{replicate, slice_index, Option, Some, None, Result, Ok, Err}
 use Rattle.std.specs.Prelude.{ℤ, pos, negsuc, neg_ℤ, ◌+ℤ◌, int_lt, codes, decimal}
 use Rattle.std.specs.List.{slice_index_or}
 use Rattle.std.specs.Ordering.{int_eq}
@@ -12,7 +12,7 @@ use Rattle.std.specs.Fmt.{signed_decimal}
 use Rattle.ptb_text.specs.declared.word.Word.{Word}
 use Rattle.ptb_text.specs.declared.word.Word.TheVariants.{NextKw, IfKw, GotoKw, GosubKw, ReturnKw}
 use Rattle.ptb_text.specs.declared.word.Word.TheVariants.{RemKw, ForKw, StopKw}
-use Rattle.ptb_text.specs.Statements.{Statements, text_at}
+use Rattle.ptb_text.specs.Statements.{Statements}
 use Rattle.ptb_expr.specs.declared.fault.Fault.{Fault}
 use Rattle.ptb_expr.specs.declared.fault.FaultKind.{FaultKind}
 use Rattle.ptb_expr.specs.declared.fault.FaultKind.TheVariants as kinds
@@ -24,9 +24,10 @@ use Rattle.ptb_expr.specs.Reading.{Reading, Whole, Malformed, item_of, expressio
 use Rattle.ptb_expr.specs.Value.{fault, or_fault, in_range, random_number, value, target_of, with_target}
 use Rattle.ptb_command.specs.declared.ending.Ending.{Ending}
 use Rattle.ptb_command.specs.declared.ending.Ending.TheVariants as endings
-use Rattle.ptb_command.specs.Commands.{Part, Assign, Say, Width, Show, NewLine, Take, Letter, Operand, Defect, Command}
-use Rattle.ptb_command.specs.State.{Place, Loop, Call, State, nesting, nesting_limit, start_of}
-use Rattle.ptb_command.specs.State.{place_after, next_index, text_of}
+use Rattle.ptb_code.specs.Commands.{Part, Assign, Say, Width, Show, NewLine, Take, Letter, Operand, Defect, Command}
+use Rattle.ptb_code.specs.Commands.{letter_of}
+use Rattle.ptb_code.specs.State.{Place, Loop, Call, State, nesting, nesting_limit}
+use Rattle.ptb_code.specs.State.{place_after, next_index, text_of, statement}
 use Rattle.ptb_command.specs.Actions.{Faults, Ends, Progress, Goes, Halts, Action, and_then}
 use Rattle.ptb_command.specs.Actions.{goes_on, halt, change, show, attempt, work_action}
 
@@ -137,10 +138,6 @@ action_of parts = parts_action parts first_width []
 abbrev pub operand : List ℤ → ℕ → ℤ
 operand operands k = slice_index_or operands k (pos 0)
 
-abbrev pub letter_of : List Part → ℕ
-letter_of (Letter x ∷ parts) = x
-letter_of _ = 0
-
 -- the place after a command's parts; it is not looked at where these are malformed
 abbrev pub end_of : Reading (List Part) → ℕ
 end_of (Whole parts e) = e
@@ -152,11 +149,6 @@ fails kind m = halt (Faults (fault kind m))
 -- the run continues at a place
 abbrev pub go_to : Option Place → Action (Unit {0})
 go_to q = change (λ S. record S { place = q })
-
--- the beginning of the statement of a number, if there is one
-abbrev pub statement : Statements → ℤ → Option Place
-statement p (pos n) = if is_some (text_at p n) then Some (start_of n) else None
-statement p (negsuc n) = None
 
 abbrev pub is_full : State → Bool
 is_full S = nat_le nesting_limit (nesting S)

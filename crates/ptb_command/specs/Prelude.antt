@@ -1,52 +1,38 @@
 -- This file passes on the definitions that the clauses of this crate cite most. It declares nothing.
 pub use Rattle.std.specs.Fmt.{signed_decimal}
 pub use Rattle.ptb_answers.specs.Outcome.{success}
-pub use Rattle.ptb_expr.specs.Evaluate.{expression_there, variable_there, IsTarget}
-pub use Rattle.ptb_expr.specs.Reading.{item_of, expression}
+pub use Rattle.ptb_expr.specs.Evaluate.{IsTarget}
 pub use Rattle.ptb_expr.specs.Store.{Cells, index_of, value_at}
-pub use Rattle.ptb_expr.specs.Translation.{IsMalformed, HasNoValue}
-pub use Rattle.ptb_expr.specs.Tree.{Tree, Elem, Bad}
+pub use Rattle.ptb_expr.specs.Translation.{HasNoValue}
+pub use Rattle.ptb_expr.specs.Tree.{Tree, Elem}
 pub use Rattle.ptb_expr.specs.TreeSteps.{run}
 pub use Rattle.ptb_expr.specs.Value.{with_target, or_fault, in_range}
-pub use Rattle.ptb_expr.specs.declared.fault.FaultKind.TheVariants.{What}
 pub use Rattle.ptb_expr.specs.declared.step.Step.{Step}
 pub use Rattle.ptb_expr.specs.declared.store.Target.TheVariants.{Element}
-pub use Rattle.ptb_text.specs.CursorState.{bytes_left}
-pub use Rattle.ptb_text.specs.Digits.{is_blank}
 pub use Rattle.ptb_text.specs.Lines.{line_limit}
-pub use Rattle.ptb_text.specs.Statements.{Statements, text_limit}
-pub use Rattle.ptb_text.specs.Words.{is_over, IsCommand, token_at}
-pub use Rattle.ptb_text.specs.declared.word.Word.{Word}
-pub use Rattle.ptb_text.specs.declared.word.Word.TheVariants.{NextKw, LetKw, InputKw, ForKw}
+pub use Rattle.ptb_text.specs.Statements.{Statements}
+pub use Rattle.ptb_text.specs.declared.word.Word.TheVariants.{NextKw}
+pub use Rattle.ptb_code.specs.Code.{AreStepsAt, IsDestination, NamesOne, IsPromptIn, prompt_by, said_by, steps_at}
+pub use Rattle.ptb_code.specs.Code.{FailsWithoutValue, IsIn, IsLiteralIn, bytes_in, literal_bytes}
+pub use Rattle.ptb_code.specs.Commands.{Part, Assign, Show, Width, command_of, parts_of}
+pub use Rattle.ptb_code.specs.Reads.{IsNext}
+pub use Rattle.ptb_code.specs.Stacks.{ClosesNewer, loop_of}
+pub use Rattle.ptb_code.specs.State.{Place}
+pub use Rattle.ptb_code.specs.declared.stack.Open.{Open}
+pub use Rattle.ptb_code.specs.declared.stack.OpenLoop.{OpenLoop}
 pub use Rattle.ptb_command.specs.Act.{parts_action, answer_instead, item_action, value_action, target_action}
-pub use Rattle.ptb_command.specs.Act.{first_width, padded_decimal, width_of, is_past, command_action, statement}
+pub use Rattle.ptb_command.specs.Act.{first_width, padded_decimal, width_of, is_past, command_action}
 pub use Rattle.ptb_command.specs.Actions.{goes_on, show, work_action, show as show_action}
 pub use Rattle.ptb_command.specs.Acts.{Refines}
-pub use Rattle.ptb_command.specs.Code.{AreStepsAt, IsDestination, NamesOne, IsPromptIn, prompt_by, said_by, steps_at}
-pub use Rattle.ptb_command.specs.Code.{FailsWithoutValue, IsIn, IsLiteralIn, bytes_in, literal_bytes, ShowsParts}
-pub use Rattle.ptb_command.specs.Code.{OnlyHasParts}
 pub use Rattle.ptb_command.specs.CommandIo.{due_trace, SameBorrows, SameDevices}
-pub use Rattle.ptb_command.specs.Commands.{Part, Assign, Show, Width, command_of, parts_of, command_round, value_part}
-pub use Rattle.ptb_command.specs.Commands.{assignment, at_end, defect, end_check, input_item, source, string_item}
-pub use Rattle.ptb_command.specs.Commands.{variable_begins, variable_item}
 pub use Rattle.ptb_command.specs.Configuration.{Configuration}
 pub use Rattle.ptb_command.specs.Devices.{Devices, with_choices, refused_answers, nothing_refused, refused_by}
 pub use Rattle.ptb_command.specs.Devices.{screen_state, with_screen}
 pub use Rattle.ptb_command.specs.Execution.{Finishes}
 pub use Rattle.ptb_command.specs.Loops.{loop_of_open, AddsStep}
-pub use Rattle.ptb_command.specs.Places.{next_place}
-pub use Rattle.ptb_command.specs.Reads.{IsRead, IsNext, NextBegins}
 pub use Rattle.ptb_command.specs.Reports.{IsShown}
-pub use Rattle.ptb_command.specs.Representation.{Begun, PlacesAre, IsLineAt}
+pub use Rattle.ptb_command.specs.Representation.{Begun}
 pub use Rattle.ptb_command.specs.ScreenOperations.{HasAsked, IsRequest, StoresLine}
-pub use Rattle.ptb_command.specs.Stacks.{ClosesNewer, loop_of, FindsOpen, call_of, newest_loop, newest_return, without}
-pub use Rattle.ptb_command.specs.Stacks.{ClosesCall, ClosesNewest}
-pub use Rattle.ptb_command.specs.State.{Place, nesting_limit, first_place, place_after, text_of}
 pub use Rattle.ptb_command.specs.Stops.{Comes, ReportsMissed, miss_of}
 pub use Rattle.ptb_command.specs.Traces.{trace, with_due, RefinesPart, Trace, fresh_after}
-pub use Rattle.ptb_command.specs.Translation.{AddsSteps, IsMalformedAt, either, IsTranslated, Translates, HasRoom}
-pub use Rattle.ptb_command.specs.Translation.{KeepsRoom, TakesPart, Completes, IsAlone, IsEnd, IsTranslatedAs}
-pub use Rattle.ptb_command.specs.Translation.{TakesOperand, IsBegun, IsStepRead, limit_tree, step_tree}
 pub use Rattle.ptb_command.specs.Values.{IsValueOf}
-pub use Rattle.ptb_command.specs.declared.stack.Open.{Open}
-pub use Rattle.ptb_command.specs.declared.stack.OpenLoop.{OpenLoop}

@@ -1,56 +1,20 @@
 -- This file defines which states of a run a machine represents.
---     PlaceIs p q m            a place of the definition is one of the machine
---     IsLineAt p i n t         the number and the text of a statement
 --     Nested p os loops calls  the levels of the definition are what is open, newest first
 --     Represents p m S             the machine represents the state S, whatever was shown and whichever lines are left
---     NextIs p q here t        the command that is next at a place, by its byte place and its text
 --     Begun p q k t word i     a command is begun: its word, which ends at i, was read
-use Rattle.std.specs.Prelude.{◌≡◌, ◌≤◌, ℕ, false, List, [], ◌∷◌, length, Option, Some, None, ℤ, pos, slice_get}
+use Rattle.std.specs.Prelude.{◌≡◌, ◌≤◌, ℕ, false, List, [], ◌∷◌, length, Some, slice_get}
 use Rattle.ptb_text.specs.declared.word.Word.{Word}
 use Rattle.ptb_text.specs.Statements.{Statements}
 use Rattle.ptb_text.specs.Words.{is_over}
-use Rattle.ptb_command.specs.declared.location.Location.{Location}
-use Rattle.ptb_command.specs.declared.stack.OpenLoop.{OpenLoop}
-use Rattle.ptb_command.specs.declared.stack.Open.{Open}
-use Rattle.ptb_command.specs.declared.stack.Open.TheVariants as opens
-use Rattle.ptb_command.specs.Commands.{parts_of, command_of, command_at}
-use Rattle.ptb_command.specs.State.{State, Place, Loop, Call, text_of, next_command}
+use Rattle.ptb_code.specs.declared.stack.OpenLoop.{OpenLoop}
+use Rattle.ptb_code.specs.declared.stack.Open.{Open}
+use Rattle.ptb_code.specs.declared.stack.Open.TheVariants as opens
+use Rattle.ptb_code.specs.Commands.{parts_of, command_of, command_at}
+use Rattle.ptb_code.specs.State.{State, Place, Loop, Call, text_of}
 use Rattle.ptb_command.specs.Act.{is_fresh}
-use Rattle.ptb_command.specs.Places.{At}
+use Rattle.ptb_code.specs.Places.{At}
+use Rattle.ptb_code.specs.Locations.{PlaceIs, PlacesAre}
 use Rattle.ptb_command.specs.Configuration.{Configuration}
-
--- ---- places
-
--- the number of a statement and the index of a command, beside the place of the statement and the byte place at which
--- the command begins
-pub record PlaceIs (p : Statements) (q : Place) (m : Location) : Type 0 where
-  pub statement : slice_get p m.statement ≡ Some (q.number, text_of p q.number)
-  pub at : At (text_of p q.number) q.index m.at
-
--- n and t are the number and the text of the statement at place i, if there is one
-abbrev pub IsLineAt : Statements → ℕ → ℤ → List ℕ → Type 0
-IsLineAt p i n t = (m : ℕ) (u : List ℕ) → slice_get p i ≡ Some (m, u) → (n ≡ pos m) × (t ≡ u)
-
-abbrev pub PlacesAre : Statements → Option Place → Option Location → Type 0
-PlacesAre p None None = Unit {0}
-PlacesAre p None (Some m) = ⊥
-PlacesAre p (Some q) None = ⊥
-PlacesAre p (Some q) (Some m) = PlaceIs p q m
-
--- a place of the program, if there is one
-pub record IsPlaceOf (p : Statements) (m : Option Location) : Type 0 where
-  pub place : Option Place
-  pub are : PlacesAre p place m
-
--- ---- the next command
-
--- here and t are the byte place of the command and the text of its statement
-pub record NextIs (p : Statements) (q : Option Place) (here : Location) (t : List ℕ) : Type 0 where
-  pub place : Place
-  pub next : next_command p q ≡ Some (place, command_at t here.at)
-  pub is : PlaceIs p place here
-  pub text : text_of p place.number ≡ t
-  pub more : is_over t here.at ≡ false
 
 -- ---- levels
 

@@ -16,19 +16,19 @@ use Rattle.ptb_machine.specs.declared.fault.RunFault.{RunFault}
 use Rattle.ptb_machine.specs.declared.fault.RunFault.TheVariants as faults
 use Rattle.ptb_command.specs.Breakage.{Breakage}
 use Rattle.ptb_command.specs.Breakage as errors
-use Rattle.ptb_command.specs.State.{Place, State, first_state}
+use Rattle.ptb_code.specs.State.{Place, State, first_state}
 use Rattle.ptb_command.specs.Act.{StepResult, Next, Over}
 use Rattle.ptb_machine.specs.Play.{Last, last_in, after_turn, turn, all_turns, last_state}
 use Rattle.ptb_machine.specs.Play.{unasked_lines, next_number, Finish, finish_of, turns, play}
 use Rattle.ptb_command.specs.Effects.{act_state, Begins, TakesLines}
 use Rattle.ptb_command.specs.Devices.{ScreenState, Devices, with_screen, Shows, Exchange}
-use Rattle.ptb_command.specs.Devices.{no_exchange, both_exchanges, Exchanges, MayFollow, Refusal}
-use Rattle.ptb_command.specs.Devices.{nothing_refused}
+use Rattle.ptb_command.specs.Devices.{no_exchange, both_exchanges, Exchanges, MayFollow, Refusal, nothing_refused}
 use Rattle.ptb_command.specs.Traces.{Leaves}
 use Rattle.ptb_command.specs.Stops.{AsksNext, Continues, LacksLine, AsksUnanswered, IsOutOfLines, DeviceFails}
 use Rattle.ptb_answers.specs.declared.rules.Rules.{Rules}
 use Rattle.ptb_command.specs.Configuration.{Configuration}
-use Rattle.ptb_command.specs.Representation.{PlacesAre, Represents}
+use Rattle.ptb_code.specs.Locations.{PlacesAre}
+use Rattle.ptb_command.specs.Representation.{Represents}
 use Rattle.ptb_machine.specs.PlayResults.{played_bytes, Plays, refused_answers, IsFinished}
 use Rattle.ptb_machine.specs.PlayResults.{IsUnanswered, IsUnfinished, LacksInput, RunComes}
 use Rattle.ptb_machine.specs.Runs.{Runs, StopsAt}

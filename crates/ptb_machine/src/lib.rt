@@ -3,9 +3,9 @@
 //! program that is played once is a run over a reader and a writer. Commands that ask nothing are
 //! done one after the other by their short forms (`advance.rt`).
 //!
-//! It depends on `ptb_command`, `ptb_devices`, `ptb_expr`, `ptb_answers`, `ptb_text`, `arrayvec`,
-//! `itoa`, `thiserror` and `rand_pcg`. The crate above may rely on `Machine::step` (one turn of
-//! `specs/Play`: the state after it, what it shows, the lines and answers it takes), on
+//! It depends on `ptb_command`, `ptb_code`, `ptb_devices`, `ptb_expr`, `ptb_answers`, `ptb_text`,
+//! `arrayvec`, `itoa`, `thiserror` and `rand_pcg`. The crate above may rely on `Machine::step` (one
+//! turn of `specs/Play`: the state after it, what it shows, the lines and answers it takes), on
 //! `Player::step` (the same by the code of the program, without its text), on `Player::advance`
 //! (some turns that touch no device), on `run` (all turns), on `run_to_end` (the same, and the line
 //! at which a limit stopped it), on `run_plain` and `run_seeded` (a run with a list of answers, or
@@ -46,10 +46,10 @@ pub use plain::{run_plain, run_plain_to_end, run_seeded, run_seeded_to_end};
 pub use player::Player;
 pub use program_code::ProgramCode;
 pub use ptb_answers::Rules;
-pub use ptb_command::{
-    CommandCode, Destination, Ending, Expression, Operation, command_laws, fault_line, line_at,
-    start_of, translate,
+pub use ptb_code::{
+    CommandCode, Destination, Expression, Operation, command_laws, line_at, start_of, translate,
 };
+pub use ptb_command::{Ending, fault_line};
 pub use ptb_devices::{
     INPUT_LIMIT, Line, LineSource, Lines, ReaderLines, Screen, TextScreen, WriterScreen, read_lines,
 };

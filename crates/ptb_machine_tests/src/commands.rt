@@ -1,10 +1,8 @@
 // This file tests what each command does, and where a run is.
 
 use crate::shared::{MEMORY, execute_first, expect_same, fault, letter, plain_rules};
-use ptb_command::{
-    CommandIo, Location, OpenLoop, Registers, SavedRegisters, Stack, Stop, first_place, is_zero,
-    next_command, place_after, put,
-};
+use ptb_code::{Location, OpenLoop, Stack, first_place, is_zero, next_command, place_after};
+use ptb_command::{CommandIo, Registers, SavedRegisters, Stop, put};
 use ptb_devices::{Line, Lines, TextScreen};
 use ptb_expr::{Listed, Pause, Store};
 use ptb_machine::{line_at, start_of};

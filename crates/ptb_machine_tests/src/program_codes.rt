@@ -3,7 +3,8 @@
 
 use crate::runs::expect_end;
 use crate::shared::{MEMORY, expect_same, letter};
-use ptb_command::{Location, Registers};
+use ptb_code::Location;
+use ptb_command::Registers;
 use ptb_machine::{Ending, Operation, ProgramCode};
 use ptb_text::{Device, LoadFault, Program, load};
 use std::alloc::{AllocError, Global};

@@ -4,7 +4,8 @@ ghost use Rattle.std.specs.Prelude.{◌≡◌, None, Ok, IfOk, IsTrue};
 ghost use Rattle.ptb_text.specs.Statements.{program};
 ghost use Rattle.ptb_text.specs.Words.{is_letter};
 
-use ptb_command::{CommandIo, Context, Output, Registers, Stack, Stop, first_place};
+use ptb_code::{Stack, first_place};
+use ptb_command::{CommandIo, Context, Output, Registers, Stop};
 use ptb_devices::{LineSource, Screen};
 use ptb_expr::{Chooser, Store};
 use ptb_machine::{CommandCode, Rules, line_at, translate};

@@ -1,7 +1,7 @@
 // This file tests the control stack: what FOR, NEXT, GOSUB and RETURN leave open.
 
 use crate::shared::{expect_same, letter};
-use ptb_command::{Location, NESTING_LIMIT, OpenLoop, SavedStack, Stack};
+use ptb_code::{Location, NESTING_LIMIT, OpenLoop, SavedStack, Stack};
 use ptb_text::Letter;
 use std::alloc::Global;
 use std::process::Abort;

@@ -5,7 +5,7 @@ use crate::translations::Shape::{
     Ask, AskReturn, AskString, Discard, Done, EndTurn, Fail, For, Gosub, Goto, If, NewLine, Remark,
     Return, ReturnByte, Set, SetElement, SetNothing, Show, Stop, Text, Width,
 };
-use ptb_command::{Literal, Prompt};
+use ptb_code::{Literal, Prompt};
 use ptb_expr::FaultKind::{How, What};
 use ptb_expr::{FaultKind, Step};
 use ptb_machine::{CommandCode, Destination, Operation, translate};

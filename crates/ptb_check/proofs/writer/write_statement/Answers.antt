@@ -3,8 +3,8 @@ use Rattle.std.proofs.Common.{◌≡◌, ◌∙◌, ◌∷◌, [], true, ap, sym
 use Rattle.std.specs.Prelude.{IsTrue, IsFalse}
 use Rattle.std.proofs.lemmas.Result.{err_from_is_err_and}
 use Rattle.ptb_text.specs.Words.{is_over}
-use Rattle.ptb_command.specs.Commands.{command_at, commands_from}
-use Rattle.ptb_command.specs.Translation.{IsTranslated}
+use Rattle.ptb_code.specs.Commands.{command_at, commands_from}
+use Rattle.ptb_code.specs.Translation.{IsTranslated}
 use Rattle.ptb_check.proofs.Progress.{all_written, more_written, not_written}
 use Rattle.ptb_check.proofs.Rounds.{mistakes_from, mistakes_left, no_command_left, others_left}
 use Rattle.ptb_check.proofs.writer.write_statement.Goals as goal

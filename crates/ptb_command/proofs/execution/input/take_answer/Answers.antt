@@ -3,7 +3,7 @@ use Rattle.std.proofs.Common.{◌≡◌, ◌∙◌, ◌++◌, [], ◌∷◌, Lis
 use Rattle.ptb_devices.specs.Sources.{ready_lines}
 use Rattle.ptb_command.specs.Act.{item_action}
 use Rattle.ptb_command.specs.Actions.{goes_on}
-use Rattle.ptb_command.specs.Code.{NamesOne}
+use Rattle.ptb_code.specs.Code.{NamesOne}
 use Rattle.ptb_command.specs.CommandIo.{due_trace, io_trace}
 use Rattle.ptb_command.specs.Devices.{devices, refused_by, screen_state}
 use Rattle.ptb_command.specs.Stops.{Comes}

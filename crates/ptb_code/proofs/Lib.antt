@@ -1,0 +1,24 @@
+-- This file names the files of lemmas.
+pub mod CommandOrder
+pub mod Commas
+pub mod FoundParts
+pub mod ReadItems
+pub mod Items
+pub mod ItemLoops
+pub mod CommandsLawful
+pub mod NewestOpens
+pub mod Nexts
+pub mod Prompts
+pub mod Placed
+pub mod Places
+pub mod Sequences
+pub mod AddedCode
+pub mod Translated
+pub mod Literals
+pub mod Letterless
+pub mod Showables
+pub mod PrintTranslation
+pub mod InputTranslation
+pub mod Sameness
+pub mod FirstParts
+pub mod FoundLoops
