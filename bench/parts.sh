@@ -7,7 +7,7 @@ room=$(mktemp -d)
 trap 'rm -rf "$room"' EXIT
 mkdir -p "$room/crates/parts/src"
 for crate in answers text expr; do cp -a "$root/crates/ptb_$crate" "$room/crates/"; done
-rm -rf "$room"/crates/ptb_*/must-fail
+rm -rf "$room"/crates/ptb_*/must-fail "$room"/crates/ptb_*/more-bugs
 cp "$root/HANDLES" "$room/"
 {
     grep -E '^ptb_(answers|text|expr):' "$root/crates.txt"

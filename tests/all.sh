@@ -40,6 +40,7 @@ tried tools.py
 tried chances.py
 tried terminal.py
 tried documents.py
+tried bugs.py
 tried promises.py
 tried refusals.sh
 tried extremes.sh

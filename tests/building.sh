@@ -273,10 +273,13 @@ count_if 'a file may have the name of an option' starts_program '^ptb: proving a
 count_if 'a changed crate is built again, and those that need it' is_called_for 'right high ptb'
 count_if 'once' starts_program ''
 changes later
-mkdir -p "$copy/crates/low/must-fail"
-touch "$copy/crates/low/must-fail/name.edit"
+mkdir -p "$copy/crates/low/must-fail" "$copy/crates/low/more-bugs"
+touch "$copy/crates/low/must-fail/name.edit" "$copy/crates/low/more-bugs/another_name.edit"
 count_if 'files that the program is not made of change nothing' starts_program ''
 count_if 'so nothing is proved' is_called_for ''
+changes ptb
+count_if 'a build for another reason' starts_program '^ptb: proving and building'
+count_if 'passes over them, too' is_called_for 'ptb'
 touch "$copy/crates.txt"
 count_if 'a list that changed' starts_program '^ptb: proving and building'
 count_if 'is a reason to build all crates' is_called_for 'low left right high ptb'

@@ -41,6 +41,7 @@ count_if 'lemma' starts 'rt <lemma> <take> <length> in ptb_text, no jobs' lemma 
 count_if 'plant' starts 'rt <plant> <--minutes> <5> in ptb_text, no jobs' plant text --minutes 5
 count_if 'bugs' starts 'rt <must-fail> <ptb_text> in a copy, no jobs' bugs text
 count_if 'one bug' starts 'tools/try-bugs <ptb_text> <a_name> in a copy, no jobs' bugs text a_name
+count_if 'more bugs' starts 'tools/try-bugs <--more> <ptb_text> in a copy, no jobs' bugs --more text
 count_if 'format' starts 'rt <fmt> in ptb_text, no jobs' format text
 count_if 'build' starts 'build <> in a copy, no jobs' build
 count_if 'test' starts 'tests/all.sh <> in a copy, no jobs' test
@@ -49,6 +50,9 @@ count_if 'bench' starts 'bench/time.sh <a> in a copy, no jobs' bench time.sh a
 count_if 'gate' starts 'rt <ci> in a copy, 4 jobs' gate
 RT_JOBS=2 count_if 'gate with other jobs' starts 'rt <ci> in a copy, 2 jobs' gate
 count_if 'release' starts 'tools/release <../release> in a copy, no jobs' release ../release
+count_if 'more bugs of all crates' starts 'tools/try-bugs <--more> in a copy, no jobs' bugs --more
+count_if 'of two crates' starts 'tools/try-bugs <--more> <ptb_text> <ptb> in a copy, no jobs' bugs --more text ptb
+count_if 'of a crate that is missing' refuses "no crate 'nosuch'" bugs --more text nosuch
 for argument in '' nosuch; do
     count_if "check needs a crate, not '$argument'" refuses "no crate '$argument'" check $argument
     count_if "bugs needs a crate, not '$argument'" refuses "no crate '$argument'" bugs $argument
@@ -60,23 +64,40 @@ count_if 'another command' refuses "no command 'nosuch'" nosuch
 # ---- some planted bugs of a crate
 
 real="$folder/a repository"
-mkdir -p "$real/tools" "$real/crates/low/src" "$real/crates/high/src" "$real/crates/high/must-fail" "$folder/lists"
+mkdir -p "$real/tools" "$real/crates/low/src" "$real/crates/high/"{src,must-fail,more-bugs} "$folder/lists"
 cp "$root/tools/try-bugs" "$real/tools/"
-touch "$real/crates.txt" "$real/HANDLES" "$real/crates/low/src/lib.rt" "$real/crates/high/must-fail/"{one,two,three}.edit
+touch "$real/crates.txt" "$real/HANDLES" "$real/crates/low/src/lib.rt"
+touch "$real/crates/high/must-fail/"{one,two,three}.edit "$real/crates/high/more-bugs/"{four,five}.edit
 printf '#!/bin/sh\nfind . -type f | sort | tr "\\n" " "; echo "$*"; echo "$PWD" >&2; exit 3\n' >"$folder/lists/rt"
 chmod +x "$folder/lists/rt"
-# tries NAME ..: tries these bugs; their status is in status
+# tries ARGUMENT ..: starts tools/try-bugs; its status is in status
 tries() {
-    PATH="$folder/lists:$PATH" "$real/tools/try-bugs" high "$@" >"$folder/output" 2>"$folder/errors"
+    PATH="$folder/lists:$PATH" "$real/tools/try-bugs" "$@" >"$folder/output" 2>"$folder/errors"
     status=$?
 }
-tries one three.edit
-due="./HANDLES ./crates.txt ./crates/high/must-fail/one.edit ./crates/high/must-fail/three.edit ./crates/low/src/lib.rt must-fail high"
-count_same 'the copy has the sources and these bugs' "$(cat "$folder/output")" "$due"
+# copy_with NAME ..: what rt finds in the copy if it has these bugs, and its arguments
+copy_with() {
+    echo "./HANDLES ./crates.txt $(printf './crates/high/must-fail/%s.edit ' "$@")./crates/low/src/lib.rt must-fail high"
+}
+tries high one three.edit
+count_same 'the copy has the sources and these bugs' "$(cat "$folder/output")" "$(copy_with one three)"
 count_if 'its status is that of rt' [ $status = 3 ]
 count_if 'the copy is removed' [ ! -e "$(cat "$folder/errors")" ]
-tries one nosuch
-count_same 'a bug that is missing' "$status $(cat "$folder/errors")" '64 try-bugs: there is no crates/high/must-fail/nosuch.edit'
+tries high four one
+count_same 'bugs of both folders' "$(cat "$folder/output")" "$(copy_with four one)"
+tries --more high
+count_same 'all of more-bugs' "$(cat "$folder/output")" "$(copy_with five four)"
+tries --more
+count_same 'all of more-bugs of all crates' "$(cat "$folder/output")" "$(copy_with five four)"
+tries high one nosuch
+due='64 try-bugs: there is no nosuch.edit in must-fail or more-bugs of crates/high'
+count_same 'a bug that is missing' "$status $(cat "$folder/errors")" "$due"
+tries --more low
+due='64 try-bugs: there is no bug in crates/low/more-bugs'
+count_same 'a crate without more bugs' "$status $(cat "$folder/errors")" "$due"
+rm -r "$real/crates/high/more-bugs"
+tries --more
+count_same 'no more bugs' "$status $(cat "$folder/errors")" '64 try-bugs: no crate has a folder more-bugs'
 
 # ---- the help, and what pages name
 
@@ -93,7 +114,7 @@ is_understood() {
     read -ra words <<<"$(example "$1")"
     [ "${words[0]}" = ./dev ] && PATH="$folder:$PATH" "$copy/dev" "${words[@]:1}" >"$folder/output" 2>&1 && [ -s "$folder/output" ]
 }
-named=$(grep -o '^\./dev [a-z]*' "$folder/help" | sort)
+named=$(grep -o '^\./dev [a-z]*' "$folder/help" | sort -u)
 due=$(sed -n 's/^\([a-z |]*\))\( .*\)\{0,1\}$/\1/p' "$root/dev" | tr -d ' ' | tr '|' '\n' | grep -vx help | sed 's|^|./dev |' | sort)
 count_if 'the help has a line for each command' [ "$named" = "$due" ]
 # starts_what_it_says LINE: whether a line of the help names what its example starts

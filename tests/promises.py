@@ -174,12 +174,12 @@ class Page(unittest.TestCase):
             self.holds(is_there, f"no clause {name} of {place}")
 
     def test_planted_bugs(self):
-        """Each planted bug is there."""
+        """Each planted bug is there, among those that the gate tries."""
         for _, edits, _ in self.mistakes:
             for crate, names in EDITS.findall(edits):
                 for name in CODE.findall(names):
                     path = ROOT / "crates" / crate / "must-fail" / f"{name}.edit"
-                    self.holds(path.is_file(), f"no planted bug {crate}: {name}")
+                    self.holds(path.is_file(), f"no planted bug of the gate {crate}: {name}")
 
     def test_refusals(self):
         """The functions and clauses that refuse a mistake are there."""
