@@ -145,7 +145,7 @@ def run_at_terminal(script, folder):
 
 
 def read_or_end(leader):
-    """The bytes that came to a terminal; none once nobody has it open any more."""
+    """The bytes that a terminal got; none once nobody has it open any more."""
     try:
         return os.read(leader, 4096)
     except OSError:
