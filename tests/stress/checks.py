@@ -30,8 +30,10 @@ FAR_LIMIT = 1_000_000
 ODD_WORDS = [
     *["", "0", "1", "-1", "+1", "01", "1,2", "1,,2", "none", "32768", "1000000001", "1e3"],
     *["x", "5 ", "\t", "١", b"\xff"],
-    *["--steps", "--memory", "--choose", "--choose=0", "--choose=2", "--answers", "--after", "--under", "--first", "--all", "--shares", "--sample", "--seed", "--list", "--check", "--chances", "--lists", "-a", "-h", "--", "-"],
-    *["--steps=7", "--memory=64", "--after=none", "--under=none", "--under=1", "--first=2", "--shares=2", "--sample=2", "--seed=7", "--form", "--form=1", "--form=3", "1/2", "no such file", "."],
+    *["--steps", "--memory", "--choose", "--choose=0", "--choose=2", "--answers", "--after", "--under", "--first", "--all"],
+    *["--shares", "--sample", "--seed", "--list", "--check", "--chances", "--lists", "-a", "-h", "--", "-"],
+    *["--steps=7", "--memory=64", "--after=none", "--under=none", "--under=1", "--first=2", "--shares=2", "--sample=2"],
+    *["--seed=7", "--form", "--form=1", "--form=3", "1/2", "no such file", "."],
 ]
 FAULTS = {"WHAT": b"WHAT?", "HOW": b"HOW?", "SORRY": b"SORRY"}
 # A report of a fault whose mark is after RETURN, or after NEXT and a letter.
@@ -343,7 +345,7 @@ def check_joined(trial, reports):
 
 
 def check_shares(trial, reports, is_whole):
-    """Of the runs that begin as one does, the listing has their reports; no run begins so with one answer more than that one has."""
+    """The listing of the runs that begin as one does has their reports; no run begins so and has one answer more."""
     for report in trial.chance.sample(reports, min(RUNS_LOOKED_AT, len(reports))):
         check_share(trial, reports, is_whole, report)
         more = [*report.answers, trial.chance.randint(1, 32767)]

@@ -10,7 +10,7 @@ HEADER = re.compile(
 
 @dataclass(frozen=True)
 class Report:
-    """A run's answers with their bounds, how it ended, how many commands it began, its transcript, and the bytes of the whole report."""
+    """A run's answers with their bounds, how it ended, its number of commands, its transcript, and the bytes of the report."""
 
     answers: tuple
     bounds: tuple
