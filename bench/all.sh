@@ -2,7 +2,7 @@
 # Writes the tables of docs/performance.md again: bench/all.sh [TABLE ..]
 #
 # It runs the other scripts of this folder, one after the other, and puts what they print between the marks `<!-- TABLE -->` and
-# `<!-- end -->` of the page. All tables take about a quarter of an hour, on a machine that does nothing else.
+# `<!-- end -->` of the page. Run it on a machine that does nothing else.
 set -eu
 bench=$(dirname "$(readlink -f "$0")")
 page=$bench/../docs/performance.md

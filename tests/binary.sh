@@ -70,23 +70,23 @@ plain 'NOANSWER' '10 PRINT RND(6)\n' 6 ''
 plain 'BADANSWER' '10 PRINT RND(6)\n' 7 '' --answers 7
 plain 'answers' '10 PRINT RND(6),RND(6)\n' 0 '     2     6\n' --answers 2,6,1
 
-# ---- answers in place of lines
+# ---- answers instead of lines
 
-plain 'no answer in place of a line' '10 INPUT A;PRINT A\n' 6 'A:' --choose 2
-plain 'a bad answer in place of a line' '10 INPUT A;PRINT A\n' 7 'A:' --choose 2 --answers 3
-plain 'an answer in place of a line' '10 INPUT A;PRINT A\n' 0 'A:2\n     2\n' --choose 2 --answers 2
-plain 'a drawn answer in place of a line' '10 INPUT A;PRINT A\n' 0 'A:1\n     1\n' --choose 1 --seed 7
-plain 'all answers in place of a line' '10 INPUT A;PRINT A\n' 0 \
+plain 'no answer instead of a line' '10 INPUT A;PRINT A\n' 6 'A:' --choose 2
+plain 'a bad answer instead of a line' '10 INPUT A;PRINT A\n' 7 'A:' --choose 2 --answers 3
+plain 'an answer instead of a line' '10 INPUT A;PRINT A\n' 0 'A:2\n     2\n' --choose 2 --answers 2
+plain 'a drawn answer instead of a line' '10 INPUT A;PRINT A\n' 0 'A:1\n     1\n' --choose 1 --seed 7
+plain 'all answers instead of a line' '10 INPUT A;PRINT A\n' 0 \
     'RUN 1/2 END 2 11\nA:1\n     1\n\nRUN 2/2 END 2 11\nA:2\n     2\n\n' --choose 2 --all
-plain 'the runs behind one with an answer in place of a line' '10 INPUT A;PRINT A\n' 0 \
+plain 'the runs after one with an answer instead of a line' '10 INPUT A;PRINT A\n' 0 \
     'RUN 2/2 END 2 11\nA:2\n     2\n\n' --choose 2 --all --after 1/2 --first 1
-refused 'an answer in place of a line that is above its bound' '10 INPUT A\n' 67 \
+refused 'an answer instead of a line that is above its bound' '10 INPUT A\n' 67 \
     'ptb: not a run\n  --after: item 1 is 3, but its question allows 1 to 2' --choose 2 --all --after 3
-refused 'answers in place of lines beside a listing of the text' '10 P.\n' 64 'ptb: --list stands alone' \
+refused 'answers instead of lines with a listing of the text' '10 P.\n' 64 'ptb: --list stands alone' \
     --choose 2 --list
-complains 'no answers in place of lines' --choose 0
-complains 'too many answers in place of lines' --choose 32768
-complains 'answers in place of lines twice' --choose 2 --choose 2
+complains 'no answers instead of lines' --choose 0
+complains 'too many answers instead of lines' --choose 32768
+complains 'answers instead of lines twice' --choose 2 --choose 2
 
 printf '10 INPUT A,B;PRINT A+B\n' >"$folder/two.bas"
 printf ')\n4\n' >"$folder/one.txt"
@@ -111,8 +111,8 @@ refused 'a full program' '1 P.1234567890\n2 P.1234567890\n3 P.1234567890\n4 P.12
 plain 'all runs' '10 PRINT "HI"\n' 0 'RUN none END 1 3\nHI\n\n' --all
 plain 'the first runs' '10 P.RND(6)\n' 0 'RUN 1/6 END 1 7\n     1\n\n' --all --first 1
 plain 'answers alone' '10 P.RND(6)\n' 0 'RUN 1 END 1 7\n     1\n\n' --all --first 1 --form 1
-plain 'the runs behind one' '10 P.RND(2)\n' 0 'RUN 2/2 END 1 7\n     2\n\n' --all --after 1
-plain 'the runs behind one with its bound' '10 P.RND(2)\n' 0 'RUN 2/2 END 1 7\n     2\n\n' --all --after 1/2
+plain 'the runs after one' '10 P.RND(2)\n' 0 'RUN 2/2 END 1 7\n     2\n\n' --all --after 1
+plain 'the runs after one with its bound' '10 P.RND(2)\n' 0 'RUN 2/2 END 1 7\n     2\n\n' --all --after 1/2
 refused 'answers that are no run' '10 P.RND(2)\n' 67 \
     'ptb: not a run\n  --after: item 1 is 3, but its question allows 1 to 2' --all --after 3
 refused 'a bound that is another' '10 P.RND(2)\n' 67 \
@@ -128,7 +128,7 @@ refused 'an answer that is missing' '10 P.RND(2),RND(6)\n' 67 \
 plain 'a share' '10 P.RND(2)\n' 0 'RUN 2/2 END 1 7\n     2\n\n' --all --under 2
 plain 'a share with its bound' '10 P.RND(2)\n' 0 'RUN 1/2 END 1 7\n     1\n\n' --all --under 1/2 --first 1
 plain 'a share that is the whole' '10 P.RND(1)\n' 0 'RUN 1/1 END 1 7\n     1\n\n' --all --under none
-plain 'the runs of a share behind one' '10 P.RND(2),RND(2)\n' 0 'RUN 2/2,2/2 END 1 13\n     2     2\n\n' --all --under 2 --after 2,1
+plain 'the runs of a share after one' '10 P.RND(2),RND(2)\n' 0 'RUN 2/2,2/2 END 1 13\n     2     2\n\n' --all --under 2 --after 2,1
 refused 'a share that no run begins' '10 P.RND(2)\n' 67 \
     'ptb: no run begins so\n  --under: item 1 is 3, but its question allows 1 to 2' --all --under 3
 refused 'a share with a bound that is another' '10 P.RND(2)\n' 67 \
@@ -138,7 +138,7 @@ refused 'a share with an answer too many' '10 P.RND(2)\n' 67 \
 refused 'a run of another share' '10 P.RND(2)\n' 67 \
     'ptb: not a run\n  --after: the list does not begin with the items of --under' --all --under 2 --after 1
 refused 'a share without all runs' '10 P.RND(2)\n' 64 'ptb: --under needs --all' --under 2
-refused 'a share beside a listing of the text' '10 P.RND(2)\n' 64 'ptb: --list stands alone' --under 2 --list
+refused 'a share with a listing of the text' '10 P.RND(2)\n' 64 'ptb: --list stands alone' --under 2 --list
 refused 'a share that is spelled wrong' '10 P.RND(2)\n' 64 \
     'ptb: bad list\n  --under: item 1 ("01") is not a number from 1 to 32767' --all --under 01
 
@@ -155,7 +155,7 @@ refused 'lists without --all' "$branches" 64 'ptb: --shares needs --all' --share
 refused 'lists of a share' "$branches" 64 'ptb: --shares excludes --after, --first and --under' --all --shares 1 --under 2
 refused 'lists after a run' "$branches" 64 'ptb: --shares excludes --after, --first and --under' --all --shares 1 --after 1
 refused 'the first lists' "$branches" 64 'ptb: --shares excludes --after, --first and --under' --all --shares 1 --first 1
-refused 'lists beside a listing of the text' "$branches" 64 'ptb: --list stands alone' --all --shares 1 --list
+refused 'lists with a listing of the text' "$branches" 64 'ptb: --list stands alone' --all --shares 1 --list
 refused 'lists of no answers' "$branches" 64 \
     "error: invalid value '0' for '--shares <N>': expected a number from 1 to 64\\n\\nFor more information, try '--help'." \
     --all --shares 0
@@ -174,7 +174,7 @@ plain 'a sample of runs that are cut off' '10 A=RND(2);GOTO 10\n' 0 'RUN 1/2,1/2
 plain 'a sample of an empty program' '' 0 'RUN none END 0 0\n\nRUN none END 0 0\n\n' --seed 7 --sample 2
 refused 'a sample without a seed' '10 P.RND(6)\n' 64 'ptb: --sample needs --seed' --sample 3
 refused 'a sample beside all runs' '10 P.RND(6)\n' 64 'ptb: --seed excludes --all' --seed 7 --sample 3 --all
-refused 'a sample beside a listing of the text' '10 P.RND(6)\n' 64 'ptb: --list stands alone' --seed 7 --sample 3 --list
+refused 'a sample with a listing of the text' '10 P.RND(6)\n' 64 'ptb: --list stands alone' --seed 7 --sample 3 --list
 refused 'a sample of no run' '10 P.RND(6)\n' 64 \
     "error: invalid value '0' for '--sample <N>': expected a number from 1 to 1000000000\\n\\nFor more information, try '--help'." \
     --seed 7 --sample 0
@@ -196,12 +196,12 @@ plain 'jumps to written numbers' '10 GOTO (20)\n20 GOSUB +10;GOTO (30)\n' 1 'HOW
 plain 'a jump to a number that is computed' '10 GOTO 411+1\n' 0 '' --check
 plain 'an empty program has no mistakes' '' 0 '' --check
 refused 'mistakes of a text that is refused' '0 P.\n' 65 'ptb: line 1: no statement number' --check
-refused 'mistakes beside a listing of the text' '10 P.1\n' 64 'ptb: --list stands alone' --check --list
+refused 'mistakes with a listing of the text' '10 P.1\n' 64 'ptb: --list stands alone' --check --list
 for words in --all '--answers x' '--after 1' '--first 1' '--choose 2' '--seed 7' '--form 1' '--under 2' '--shares 2' '--sample 3'; do
     # shellcheck disable=SC2086
-    refused "mistakes beside $words" '10 P.1\n' 64 'ptb: --check stands alone' --check $words
+    refused "mistakes with $words" '10 P.1\n' 64 'ptb: --check stands alone' --check $words
 done
-refused 'mistakes beside chances' '10 P.1\n' 64 'ptb: --check stands alone' --chances --check
+refused 'mistakes with chances' '10 P.1\n' 64 'ptb: --check stands alone' --chances --check
 
 # ---- the chances of results
 
@@ -217,10 +217,10 @@ plain 'chances of answers instead of lines' '10 INPUT A\n' 0 \
     'CHANCE 1/2 1 END 3\nA:1\nCHANCE 1/2 1 END 3\nA:2\n' --chances --choose 2
 plain 'the chance that INPUT finds no line' '10 INPUT A;P.RND(2)\n' 0 'CHANCE 1/1 1 NOINPUT 2\nA:\n' --chances
 refused 'chances of a text that is refused' '0 P.\n' 65 'ptb: line 1: no statement number' --chances
-refused 'chances beside a listing of the text' '10 P.1\n' 64 'ptb: --list stands alone' --chances --list
+refused 'chances with a listing of the text' '10 P.1\n' 64 'ptb: --list stands alone' --chances --list
 for words in --all '--answers x' '--after 1' '--first 1' '--seed 7' '--form 1' '--under 2' '--shares 2' '--sample 3'; do
     # shellcheck disable=SC2086
-    refused "chances beside $words" '10 P.1\n' 64 'ptb: --chances stands alone' --chances $words
+    refused "chances with $words" '10 P.1\n' 64 'ptb: --chances stands alone' --chances $words
 done
 
 # ---- files
@@ -319,7 +319,7 @@ shows_soon() {
     done
     echo no
 }
-count 'a prompt stands before its line has come' "$(shows_soon 'A:')"
+count 'a prompt is shown before its line has come' "$(shows_soon 'A:')"
 printf '5\n' >"$folder/lines"
 count 'a line is taken while the pipe stays open' "$(shows_soon 'A:5\n    10\nB:')"
 printf '7' >"$folder/lines"

@@ -1,21 +1,23 @@
 #!/usr/bin/env python3
-"""Checks the pages for readers: their commands, quotations of the source, links, named files and definitions, pictures and prose.
+"""Checks the pages for readers: their commands, quotations of the source, links, named files and definitions, pictures, prose.
 
-The commands that a page prints after a `$` are run, and what they show is compared with what is printed below them. A line that
-continues a command begins with `>`. The commands of a block are run by one bash, so that they can leave statuses for one another.
-Those of a page run in a folder of its own, in which ptb, tools and examples are as at the root, so that a block can use the files of
-the blocks before it. A block with a program that is not installed is skipped where it is one of OPTIONAL. A line that looks like a
-command and has no `$` is a failure.
+The commands that a page prints after a `$` are run, and what they show is compared with what is printed below them. A line
+that continues a command begins with `>`. The commands of a block are run by one bash, so that they can leave statuses for
+one another. Those of a page run in a folder of its own, in which ptb, tools and examples are as at the root, so that a
+block can use the files of the blocks before it. A block with a program that is not installed is skipped if it is one of
+OPTIONAL. A line that looks like a command and has no `$` is a failure.
 
-A single command without `<` and `|` is one at a terminal: what is typed there comes after the colons of what is shown. If it shows a
-seed that was drawn, it is run with this seed. A block that shows why a run ended is run at a terminal, since nothing is said elsewhere.
+A single command without `<` and `|` is one at a terminal: what is typed there comes after the colons of what is shown. If
+it shows a seed that was drawn, it is run with this seed. A block that shows why a run ended is run at a terminal, since
+nothing is said elsewhere.
 
 `<!-- from FILE -->` before a block means that its lines are in FILE, one after the other.
 
-The prose has short lines and complete tables, and avoids the words of tests/wording.txt. The heads of files of definitions and of proofs name the main ones of what is in them.
+The prose has short lines and complete tables, and avoids the words of tests/wording.txt. The heads of files of definitions
+and of proofs name the main ones of what is in them.
 
-The last line is 'N passed, M failed'. Arguments name parts of tests, as links or test_tool; without any, all are run. PTB names
-another program than the one that ./ptb builds.
+The last line is 'N passed, M failed'. Arguments name parts of tests, as links or test_tool; without any, all are run. PTB
+names another program than the one that ./ptb builds.
 """
 
 import glob
@@ -145,7 +147,7 @@ def run_at_terminal(script, folder):
 
 
 def read_or_end(leader):
-    """The bytes that came to a terminal; none once nobody has it open any more."""
+    """The bytes that a terminal got; none once nobody has it open any more."""
     try:
         return os.read(leader, 4096)
     except OSError:

@@ -135,7 +135,7 @@ def deepest():
     yield run("256 open, 16 MiB of input", DEEPEST, shown, words=few, lines=text)
     yield run("all runs of it", DEEPEST, report([], "STOP", steps, shown), words=few + " --all", lines=text)
     too_long = text + "\n"
-    yield run("a byte more, behind the last line that is asked for", DEEPEST, shown, words=few, lines=too_long)
+    yield run("a byte more, after the last line that is asked for", DEEPEST, shown, words=few, lines=too_long)
     unread = f"cannot read the input\n  standard input has more than {INPUT_LIMIT} bytes"
     yield refusal("a byte more, and all runs", DEEPEST, 66, unread, few + " --all", too_long)
 
@@ -226,8 +226,8 @@ def long_lists():
     rolled = program + "30 P.RND(2)\n"
     last = report([*ones, 2], "END", steps + 1, "     2\n")
     yield run("a run of 60,000 answers", program, report(ones, "END", steps, ""), words=listed)
-    yield run("nothing is behind it", program, "", words=after(ones))
-    yield run("a run is behind one of 60,001", rolled, last, words=after([*ones, 1]))
+    yield run("nothing is after it", program, "", words=after(ones))
+    yield run("a run is after one of 60,001", rolled, last, words=after([*ones, 1]))
     yield run("60,000 answers of a plain run", program, "", words=f"--steps 200000 --answers {','.join(['1'] * 60_000)}")
     over = "the run is over after 60000 items"
     too_great = "item 60000 is 2, but its question allows 1 to 1"
@@ -240,7 +240,7 @@ def long_lists():
     yield run("a run under all but one of them", program, report(ones, "END", steps, ""), words=under(ones[1:]))
     yield run("the last of two runs, under 60,001 answers", rolled, last, words=under([*ones, 2]))
     both = f"{after([*ones, 1])} --under {','.join(['1'] * 100)}"
-    yield run("it behind the other, under the first 100 of them", rolled, last, words=both)
+    yield run("it after the other, under the first 100 of them", rolled, last, words=both)
     yield refusal("a run begins with no more answers", program, 67, no_run + over, under([*ones, 1]))
     yield refusal("nor with one that is too great", program, 67, no_run + too_great, under([*ones[1:], 2]))
 
@@ -357,7 +357,7 @@ def tables():
     rows = (f"CHANCE 1/32767 1 END 6\n{k:6}\n" for k in range(1, 32768))
     yield run("the chances of 32767 results", "10 P.RND(32767)\n", "".join(rows), 0, "--chances")
     yield run("the chance of 4000 answers", "10 F.I=1TO4000;A=RND(1);N.I\n", "CHANCE 1/1 1 END 0\n\n", 0, "--chances")
-    # each throw goes on with one answer of two, up to the limit
+    # each throw continues with one answer of two, up to the limit
     tosses = 1 << 4999
     due = f"CHANCE {tosses - 1}/{tosses} 4999 STOP 0\n\nCHANCE 1/{tosses} 1 LIMIT 0\n\n"
     yield run("the chances of 4999 tosses", "10 IF RND(2)=1 STOP\n20 GOTO 10\n", due, 0, "--chances --steps 9998")

@@ -24,10 +24,10 @@ KINDS = {
     "fail": "reads and writes failed",
 }
 MOST_CALLS = 5000
-# Room for the words of the command line is asked for twice: for all of them, and where that is refused for fewer.
+# Room for the arguments is requested twice: for all of them, and if that is refused for fewer.
 MOST_SPARED = 1
-# A listing keeps at most 64 copies of its machine, each in two pieces of memory, and goes on without one that is refused. So
-# does a table of chances, which is added up from the runs of a listing.
+# A listing keeps at most 64 copies of its machine, each in two pieces of memory, and continues without one that is
+# refused. So does a table of chances, which is added up from the runs of a listing.
 MOST_SPARED_COPIES = 128
 WITH_COPIES = {"--all", "--chances"}
 SECONDS_OF_A_RUN = 60
@@ -42,8 +42,8 @@ UNWRITTEN = noted(74, "cannot write")
 class Sweep:
     """A row's runs with one kind of strike.
 
-    It has how many calls were struck, how many of these runs were whole all the same, how many runs ended as they may,
-    and what the others came to.
+    It has how many calls were struck, how many of these runs were complete all the same, how many runs ended as they
+    may, and how the others ended.
     """
 
     row: Row
@@ -75,13 +75,13 @@ def swept(task):
 
 
 def most_spared(row, kind):
-    """How many of a row's runs may be whole though an allocation was refused, or all from one on."""
+    """How many of a row's runs may be complete although an allocation was refused, or all from one on."""
     copies = MOST_SPARED_COPIES if WITH_COPIES & set(row.words.split()) else 0
     return copies + (MOST_SPARED if kind == "refuse" else 0)
 
 
 def row_with_text(row, unstruck):
-    """The row with its whole reply: where the text is clap's, it is that of a run in which nothing is struck."""
+    """The row with its complete reply: if the text is clap's, it is the reply of a run in which nothing is struck."""
     return row if isinstance(row.due, Reply) else replace(row, due=replace(unstruck, status=row.due))
 
 
@@ -156,7 +156,7 @@ def has_whole_reports(row, reply):
 
 
 def is_cut_short(row, reply, note):
-    """Whether a beginning of what is due was written, and then this note."""
+    """Whether a prefix of what is due was written, and then this note."""
     is_noted = (reply.status, reply.errors) == (note.status, note.errors)
     return is_noted and row.due.output.startswith(reply.output)
 
@@ -173,7 +173,7 @@ class Refusals(runner.Gathered):
         for kind, name in KINDS.items():
             struck = [sweep.struck for sweep in sweeps if sweep.kind == kind]
             whole = sum(sweep.whole for sweep in sweeps if sweep.kind == kind)
-            print(f"{name}: {sum(struck)} in {len(struck)} rows, {min(struck)} to {max(struck)} each; {whole} runs whole")
+            print(f"{name}: {sum(struck)} in {len(struck)} rows, {min(struck)} to {max(struck)} each; {whole} runs complete")
             # if nothing is struck in any row, the strikes don't reach the program
             with self.subTest(name):
                 self.assertTrue(any(struck))

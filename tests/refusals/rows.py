@@ -7,7 +7,7 @@ from replies import Reply
 
 @dataclass(frozen=True)
 class Row:
-    """A program with its words and its input lines, and the reply that is due; where the text is clap's, its status.
+    """A program with its arguments and input lines, and the reply that is due; if the text is clap's, its status.
 
     Where the input is None, standard input is the program.
     """

@@ -14,11 +14,11 @@ class Endings(Trials):
     """How tools/resume ends."""
 
     def says(self, name, given, status, errors, file=b""):
-        """Checks the status and the text for errors of a call with these words, and what is in the file behind it."""
+        """Checks the status and the text for errors of a call with these arguments, and what is in the file after it."""
         reply = self.resume(*given)
         self.hold(name, (reply.status, reply.errors, reply.file) == (status, errors, file), reply)
 
-    def test_words(self):
+    def test_arguments(self):
         self.text(DICE)
         write(LISTING, b"")
         ptb = self.ptb
@@ -63,7 +63,7 @@ class Endings(Trials):
         given = [LISTING, "--", self.ptb, "--all", "--steps", "0", PROGRAM]
         reply = self.resume(*given)
         told = (reply.status, reply.file) == (64, text[:20]) and "--steps" in reply.errors
-        self.hold("words that the command refuses", told, reply)
+        self.hold("arguments that the command refuses", told, reply)
         write("whole", text)
         for ending, status in ("exit 74", 74), ("kill -9 $$", 137):
             for length, due in (10, 20), (30, 30), (45, 45):
@@ -71,10 +71,10 @@ class Endings(Trials):
                 os.chmod("stand_in", 0o755)
                 write(LISTING, text[:20])
                 given = [LISTING, "--", "./stand_in", "--all"]
-                self.says(f"{ending} behind {length} bytes", given, status, "", text[:due])
+                self.says(f"{ending} after {length} bytes", given, status, "", text[:due])
 
     def test_a_full_disk(self):
-        """A file at its size limit keeps a beginning of the listing, which is gone on with where there is room."""
+        """A file at its size limit keeps a prefix of the listing, which is resumed where there is room."""
         case = Case("10 PRINT RND(99)\n")
         text = self.text(case)
         write(LISTING, text[:500])
@@ -84,4 +84,4 @@ class Endings(Trials):
         due = f"resume: {LISTING}: cannot write: File too large\n".encode()
         self.hold("a file at its size limit", (done.returncode, done.stderr) == (74, due), done)
         self.hold("and what it holds", read(LISTING) == text[:1024])
-        self.says("and goes on", [LISTING, "--", *self.words(case)], 0, "", text)
+        self.says("and is resumed", [LISTING, "--", *self.words(case)], 0, "", text)

@@ -14,8 +14,8 @@ LARGE = Case(
 )
 GROWTHS = (0, 1, 1000, 100_000, 200_000)  # for how many bytes a kill waits; for 0 it is an early one
 EARLY = 0.4  # the most seconds before an early kill
-SECONDS = 9  # for so long what goes on is killed, and then no more
-ENOUGH = 5  # so many kills a listing needs
+SECONDS = 9  # for so long the tool is killed, and then no more
+ENOUGH = 5  # a listing needs so many kills
 
 
 class Kills(Trials):
@@ -32,18 +32,18 @@ class Kills(Trials):
         return subprocess.Popen(words, stdin=subprocess.DEVNULL, stderr=subprocess.DEVNULL)
 
     def kills(self, text):
-        """Kills listings and what goes on with them. One may be whole before it was seen to grow, so up to six are begun."""
+        """Kills listings and the tool that resumes them. One may be complete too early, so up to six are started."""
         for _ in range(6):
             killed_times, beginnings = self.kills_of_one(text)
             if killed_times >= ENOUGH or not beginnings:
                 break
-        self.hold("a killed listing is a beginning at each moment", beginnings)
+        self.hold("a killed listing is a prefix at each moment", beginnings)
         self.hold("enough of the kills came in time", killed_times >= ENOUGH, killed_times)
         status = self.resuming().wait()
         self.hold(f"a listing that was killed {killed_times} times", status == 0 and read(LISTING) == text, status)
 
     def kills_of_one(self, text):
-        """Kills a listing, and then what goes on with it, again and again: how often, and whether it was always a beginning."""
+        """Kills a listing, and then the tool that resumes it, several times: how often, and whether it was always a prefix."""
         with open(LISTING, "wb") as file:
             self.killed(subprocess.Popen(self.words(LARGE), stdin=subprocess.DEVNULL, stdout=file), GROWTHS[-1])
         killed_times, beginnings, status, until = 1, True, None, time.monotonic() + SECONDS
@@ -54,7 +54,7 @@ class Kills(Trials):
         return killed_times, beginnings
 
     def two_at_once(self, text):
-        """Two that go on with one file write the same bytes at the same places."""
+        """Two tools that resume one file write the same bytes at the same places."""
         write(LISTING, text[: len(text) * 3 // 4])
         both = [self.resuming(), self.resuming()]
         statuses = [process.wait() for process in both]

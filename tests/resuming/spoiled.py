@@ -20,7 +20,7 @@ class Spoiled(Trials):
     """Files that are no listing of the program."""
 
     def test_no_listings(self):
-        """Files of other kinds, and texts that go on behind a listing."""
+        """Files of other kinds, and texts that continue after a listing."""
         text = self.text(DICE)
         words = self.words(DICE)
         noise = bytes(random.Random("noise").randrange(256) for _ in range(100_000))
@@ -29,8 +29,8 @@ class Spoiled(Trials):
         self.refused("zeros", bytes(1_000_000), words, 65, no_listing(1, NO_REPORT))
         self.refused("a program", DICE.program.encode(), words, 65, no_listing(1, NO_REPORT))
         self.refused("an empty line", b"\n", words, 65, no_listing(1, NO_REPORT))
-        self.refused("an empty line behind reports", text + b"\n", words, 65, no_listing(len(text) + 1, NO_REPORT))
-        self.refused("a byte behind a whole listing", text + b"R", words, 65, no_listing(len(text) + 1, ENDS_HERE))
+        self.refused("an empty line after reports", text + b"\n", words, 65, no_listing(len(text) + 1, NO_REPORT))
+        self.refused("a byte after a complete listing", text + b"R", words, 65, no_listing(len(text) + 1, ENDS_HERE))
         self.refused("a listing twice", text + text, words, 65, no_listing(len(text) + 1, BEFORE))
         number = b"RUN 1 END 1 " + b"9" * 6000 + b"\n"
         self.refused("a number of bytes without end", number, words, 65, no_listing(1, NO_REPORT))
@@ -78,7 +78,7 @@ class Spoiled(Trials):
             self.refused(name, b"".join(order), words, 65, due)
 
     def test_changed_bytes(self):
-        """A listing of which one byte is changed: any of its last report, or of a header, up to the answers or behind the
+        """A listing of which one byte is changed: any of its last report, or of a header, up to the answers or after the
         steps; in the last header any. (The steps and the transcripts of the reports before the last aren't looked at.)"""
         reports = reports_of(self.text(ALONE_ENDINGS))
         places, place = [], 0

@@ -1,4 +1,4 @@
-"""This file checks that a listing is gone on with: after each byte, in portions, and with answers that have bounds."""
+"""This file checks that a listing is resumed: after each byte, in portions, and with answers that have bounds."""
 
 import os
 import subprocess
@@ -14,7 +14,7 @@ TWO_QUESTIONS = "10 PRINT RND(2)*RND(2)\n"
 NOT_A_RUN = "ptb: not a run\n  --after: item 1 is 3, but its question allows 1 to 2\n"
 NO_RUN_BEGINS_SO = "ptb: no run begins so\n  --under: item 1 is 3, but its question allows 1 to 2\n"
 
-# a listing whose answers have their bounds, and a stand-in for the program that writes it: as it goes on behind a run
+# a listing whose answers have their bounds, and a stand-in for the program that writes it: as it continues after a run
 BOUNDS = [b"RUN 1/2 END 2 0\n\n", b"RUN 2/2,1/2 HOW 3 2\nAB\n", b"RUN 2/2,2/2 END 3 1\n\n\n"]
 STAND_IN = """#!/bin/sh
 case "$*" in
@@ -51,13 +51,13 @@ class Standing(Trials):
         self.hold(f"{name}: cut at each of {len(text)} bytes", not bad, bad[:3])
 
     def test_whole_and_nothing(self):
-        """A listing that is whole stays as it is, also where it may not be written; one that isn't may not be read-only."""
+        """A complete listing stays as it is, even if it may not be written; an incomplete one may not be read-only."""
         text = self.text(DICE)
         write(LISTING, text)
         before = os.stat(LISTING).st_mtime_ns
         reply = self.resume(LISTING, "--", *self.words(DICE))
-        self.hold("a whole listing", (reply.status, reply.errors, reply.file) == (0, "", text), reply)
-        self.hold("a whole listing is left alone", os.stat(LISTING).st_mtime_ns == before)
+        self.hold("a complete listing", (reply.status, reply.errors, reply.file) == (0, "", text), reply)
+        self.hold("a complete listing is left alone", os.stat(LISTING).st_mtime_ns == before)
 
         def read_only(path, mode, buffering):
             if mode != "rb":
@@ -65,14 +65,14 @@ class Standing(Trials):
             return open(path, mode, buffering)
 
         self.module.open = read_only
-        self.completed("a whole listing that may only be read", text, self.words(DICE), text)
+        self.completed("a complete listing that may only be read", text, self.words(DICE), text)
         line = f"resume: {LISTING}: this file may not be written"
         self.refused("a part that may only be read", text[:-1], self.words(DICE), 73, line)
         del self.module.open
         self.completed("an empty file", b"", self.words(DICE), text, self.resume)
 
     def test_portions(self):
-        """Words with --first and --after, spelled in both ways and in any place, at the borders of reports."""
+        """Arguments with --first and --after, spelled in both ways and in any place, at the borders of reports."""
         reports = reports_of(self.text(Case(TWO_QUESTIONS)))
         for standing in range(4):
             name, part, whole = f"--first 3 with {standing} reports", reports[:standing], reports[:3]
@@ -91,24 +91,24 @@ class Standing(Trials):
         words = [self.ptb, "--all", "--after", "1,1", PROGRAM]
         self.refused("reports before --after", b"".join(reports), words, 65, no_listing(1, "this run doesn't come next"))
         words = [self.ptb, "--all", "--after", "none", PROGRAM]
-        self.refused("reports behind none", reports[0], words, 65, no_listing(1, "this run doesn't come next"))
+        self.refused("reports after none", reports[0], words, 65, no_listing(1, "this run doesn't come next"))
         write(LISTING, b"")
         reply = self.resume(LISTING, "--", self.ptb, "--all", "--after", "3,1", PROGRAM)
         self.hold("--after no run", (reply.status, reply.errors, reply.file) == (67, NOT_A_RUN, b""), reply)
 
     def test_shares(self):
-        """Words with --under: reports of other shares are none of this one's."""
+        """Arguments with --under: reports of other shares are none of this one's."""
         reports = reports_of(self.text(Case(TWO_QUESTIONS)))
         words = [self.ptb, "--all", "--under=2", PROGRAM]
         for standing in range(3):
             self.completed(f"a share with {standing} reports", b"".join(reports[2 : 2 + standing]), words, b"".join(reports[2:]))
-        behind = [self.ptb, "--under", "2/2", "--first", "1", "--all", "--after", "2,1", PROGRAM]
-        self.completed("a share behind a run", reports[3][:9], behind, reports[3])
+        words_after = [self.ptb, "--under", "2/2", "--first", "1", "--all", "--after", "2,1", PROGRAM]
+        self.completed("a share after a run", reports[3][:9], words_after, reports[3])
         cause = "this run doesn't come next"
         self.refused("reports before the share", b"".join(reports), words, 65, no_listing(1, cause))
         self.refused("a share without its first run", reports[3], words, 65, no_listing(1, cause))
         first = [self.ptb, "--all", "--under", "1", PROGRAM]
-        self.refused("reports behind the share", b"".join(reports), first, 65, no_listing(len(b"".join(reports[:2])) + 1, cause))
+        self.refused("reports after the share", b"".join(reports), first, 65, no_listing(len(b"".join(reports[:2])) + 1, cause))
         write(LISTING, b"")
         reply = self.resume(LISTING, "--", self.ptb, "--all", "--under", "3", PROGRAM)
         due = (67, NO_RUN_BEGINS_SO, b"")
@@ -144,7 +144,7 @@ class Standing(Trials):
         self.hold("the program on standard input", (reply.status, reply.file) == (0, text), reply)
 
     def test_names(self):
-        """A program that is named like an option, and a command that stands behind another one."""
+        """A program that is named like an option, and a command that follows another one."""
         text = self.text(DICE)
         write("--first", DICE.program.encode())
         for words in [[self.ptb, "--all", "--", "--first"], ["env", self.ptb, "--steps", "9", "--all", PROGRAM]]:

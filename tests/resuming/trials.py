@@ -47,7 +47,7 @@ HEADERS = Case(
 
 @dataclass(frozen=True)
 class Reply:
-    """What came of a call: its status, its text for errors, and what stands in the file."""
+    """The result of a call: its status, its text for errors, and what is in the file."""
 
     status: int
     errors: str
@@ -77,18 +77,18 @@ class Trials(unittest.TestCase):
             self.assertTrue(holds, seen)
 
     def words(self, case):
-        """The words that list the case's runs."""
+        """The command that lists the case's runs."""
         return [self.ptb, "--all", *case.words, PROGRAM]
 
     def text(self, case):
-        """Writes the case's files, and gives its whole listing."""
+        """Writes the case's files, and gives its complete listing."""
         write(PROGRAM, case.program.encode())
         write("input", case.input)
         with open("input", "rb") as stdin:
             return subprocess.run(self.words(case), stdin=stdin, stdout=subprocess.PIPE, check=True).stdout
 
     def resume(self, *words, stdin="input"):
-        """Calls tools/resume with these words as a process of its own."""
+        """Calls tools/resume with these arguments as a process of its own."""
         with open(stdin, "rb") as opened:
             done = subprocess.run([self.tool, *words], stdin=opened, capture_output=True, timeout=SECONDS_OF_A_CALL)
         return Reply(done.returncode, done.stderr.decode(), read(LISTING))
@@ -108,7 +108,7 @@ class Trials(unittest.TestCase):
         return Reply(status, errors.getvalue(), read(LISTING))
 
     def completed(self, name, content, words, text, call=None):
-        """Checks that a file with this content is gone on with up to the whole text."""
+        """Checks that a file with this content is resumed up to the complete text."""
         write(LISTING, content)
         reply = (call or self.resume_here)(LISTING, "--", *words)
         self.hold(name, (reply.status, reply.errors, reply.file) == (0, "", text), reply)

@@ -1,4 +1,4 @@
-"""This file has what a call of the program comes to, for tests that compare it with what is due."""
+"""This file has the result of a call of the program, for tests that compare it with what is due."""
 
 import subprocess
 from dataclasses import dataclass
@@ -8,9 +8,9 @@ NOT_OVER = "not over in time"
 
 @dataclass(frozen=True)
 class Reply:
-    """What came of a call.
+    """The result of a call.
 
-    The status is a number, below 0 where a signal ended the program, or words that say why there is none.
+    The status is a number, below 0 where a signal ended the program, or a text that says why there is none.
     """
 
     status: object
@@ -19,7 +19,7 @@ class Reply:
 
 
 def replied(words, seconds, **how):
-    """Calls the program by these words, for so many seconds at most. What isn't captured is empty in the reply."""
+    """Calls the program with these arguments, for so many seconds at most. What isn't captured is empty in the reply."""
     try:
         done = subprocess.run(words, timeout=seconds, check=False, **how)
     except subprocess.TimeoutExpired as late:

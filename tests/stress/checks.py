@@ -30,8 +30,10 @@ FAR_LIMIT = 1_000_000
 ODD_WORDS = [
     *["", "0", "1", "-1", "+1", "01", "1,2", "1,,2", "none", "32768", "1000000001", "1e3"],
     *["x", "5 ", "\t", "١", b"\xff"],
-    *["--steps", "--memory", "--choose", "--choose=0", "--choose=2", "--answers", "--after", "--under", "--first", "--all", "--shares", "--sample", "--seed", "--list", "--check", "--chances", "--lists", "-a", "-h", "--", "-"],
-    *["--steps=7", "--memory=64", "--after=none", "--under=none", "--under=1", "--first=2", "--shares=2", "--sample=2", "--seed=7", "--form", "--form=1", "--form=3", "1/2", "no such file", "."],
+    *["--steps", "--memory", "--choose", "--choose=0", "--choose=2", "--answers", "--after", "--under", "--first", "--all"],
+    *["--shares", "--sample", "--seed", "--list", "--check", "--chances", "--lists", "-a", "-h", "--", "-"],
+    *["--steps=7", "--memory=64", "--after=none", "--under=none", "--under=1", "--first=2", "--shares=2", "--sample=2"],
+    *["--seed=7", "--form", "--form=1", "--form=3", "1/2", "no such file", "."],
 ]
 FAULTS = {"WHAT": b"WHAT?", "HOW": b"HOW?", "SORRY": b"SORRY"}
 # A report of a fault whose mark is after RETURN, or after NEXT and a letter.
@@ -109,11 +111,11 @@ class Trial:
         return self.call(options, **files)
 
     def choose(self):
-        """The option for answers in place of lines, where the case has them."""
+        """The option for answers instead of lines, if the case has them."""
         return [("choose", str(self.case.choose))] if self.case.choose else []
 
     def runs(self, after=None, first=REPORTS, bounds=None, form=None, under=None, **files):
-        """A listing of runs: those that begin so, behind this one, with these bounds of its answers, at most so many."""
+        """A listing of runs: those that begin so, after this one, with these bounds of its answers, at most so many."""
         options = [("all", ""), ("steps", str(self.case.steps)), *self.choose()]
         options += [] if under is None else [("under", under)]
         options += [] if after is None else [("after", spelled(after) if bounds is None else marked(after, bounds))]
@@ -242,7 +244,7 @@ def reports_in(trial, call, reply):
 
 
 def check_order(trial, reports):
-    """Each report's run is the next one behind that of the report before."""
+    """Each report's run is the next one after the run of the report before."""
     runs = [report.answers for report in reports]
     seen = (trial.runs(), "the reports")
     trial.hold("the first run answers 1", set(runs[0]) <= {1}, seen)
@@ -266,20 +268,20 @@ def check_bounds(trial, reports):
 
 
 def check_stated_bounds(trial, report):
-    """The bounds of a run may stand in the list to go on behind, some or all of them, and no others."""
+    """The bounds of a run may be in the list of --after, some or all of them, and no others."""
     some = [trial.chance.choice([0, bound]) for bound in report.bounds]
     due = trial.ask(trial.runs(report.answers, 1, form="2")).output
-    trial.expect("behind a run with some of its bounds", trial.runs(report.answers, 1, some), 0, due)
-    trial.expect("behind a run with its bounds", trial.runs(report.answers, 1, report.bounds), 0, due)
+    trial.expect("after a run with some of its bounds", trial.runs(report.answers, 1, some), 0, due)
+    trial.expect("after a run with its bounds", trial.runs(report.answers, 1, report.bounds), 0, due)
     if report.bounds:
         place = trial.chance.randrange(len(report.bounds))
         other = 1 + (report.bounds[place] + trial.chance.randrange(32766)) % 32767
         wrong = [*some[:place], other, *some[place + 1 :]]
-        trial.expect("behind a run with another bound", trial.runs(report.answers, 1, wrong), calls.NO_RUN, b"")
+        trial.expect("after a run with another bound", trial.runs(report.answers, 1, wrong), calls.NO_RUN, b"")
 
 
 def check_gaps(trial, reports, is_whole):
-    """No run is left out between those of the reports, and none behind them where they are all."""
+    """No run is left out between those of the reports, and none after them if they are all."""
     check_gaps_between(trial, [report.answers for report in reports], is_whole)
 
 
@@ -319,17 +321,17 @@ def check_portions(trial, reports, is_whole):
         first = trial.chance.choice([1, 2, REPORTS]) if is_whole else trial.chance.randint(1, max(1, len(rest)))
         if is_whole or rest:
             due = b"".join(report.text for report in rest[:first])
-            trial.expect("the runs behind one", trial.runs(report.answers, first, form="2"), 0, due)
-    # a listing that isn't as whole as it looks could go on for ever
+            trial.expect("the runs after one", trial.runs(report.answers, first, form="2"), 0, due)
+    # a listing that isn't as complete as it looks might never end
     if is_whole and not trial.failures:
         whole = b"".join(report.text for report in reports)
         trial.expect("all runs, with no bound on their number", trial.runs(first=None), 0, whole)
-        trial.expect("nothing is behind the last run", trial.runs(reports[-1].answers, None), 0, b"")
+        trial.expect("nothing is after the last run", trial.runs(reports[-1].answers, None), 0, b"")
     check_joined(trial, reports)
 
 
 def check_joined(trial, reports):
-    """Portions that are taken one after the other, each behind the last run of the one before."""
+    """Portions that are taken one after the other, each after the last run of the one before."""
     portion = trial.chance.randint(max(1, len(reports) // 4), len(reports))
     taken, after = b"", None
     for begin in range(0, len(reports), portion):
@@ -343,7 +345,7 @@ def check_joined(trial, reports):
 
 
 def check_shares(trial, reports, is_whole):
-    """Of the runs that begin as one does, the listing has their reports; no run begins so with one answer more than that one has."""
+    """The listing of the runs that begin as one does has their reports; no run begins so and has one answer more."""
     for report in trial.chance.sample(reports, min(RUNS_LOOKED_AT, len(reports))):
         check_share(trial, reports, is_whole, report)
         more = [*report.answers, trial.chance.randint(1, 32767)]
@@ -351,24 +353,24 @@ def check_shares(trial, reports, is_whole):
 
 
 def check_share(trial, reports, is_whole, report):
-    """The share of some of a report's answers, from its first run on, and behind that report."""
+    """The share of some of a report's answers, from its first run on, and after that report."""
     count = trial.chance.randint(0, len(report.answers))
     some = [trial.chance.choice([0, bound]) for bound in report.bounds[:count]]
     under = marked(report.answers[:count], some)
     share = [it for it in reports if it.answers[:count] == report.answers[:count]]
-    # the runs of a share stand one behind the other, so where others are behind them there are no more; but a listing that
-    # isn't as whole as it looks could go on for ever
+    # the runs of a share follow one another, so if other runs are after them there are no more; but a listing that
+    # isn't as complete as it looks might never end
     is_all = (is_whole or share[-1] is not reports[-1]) and not trial.failures
     first = None if is_all else len(share)
     trial.expect("a share", trial.runs(under=under, first=first, form="2"), 0, b"".join(it.text for it in share))
     rest = share[share.index(report) + 1 :]
     if is_all or rest:
         call = trial.runs(report.answers, None if is_all else len(rest), form="2", under=under)
-        trial.expect("a share behind one of its runs", call, 0, b"".join(it.text for it in rest))
+        trial.expect("a share after one of its runs", call, 0, b"".join(it.text for it in rest))
     others = [it for it in reports if it not in share]
     if others:
         call = trial.runs(trial.chance.choice(others).answers, under=under)
-        trial.expect("a share behind a run of another", call, calls.NO_RUN, b"")
+        trial.expect("a share after a run of another", call, calls.NO_RUN, b"")
 
 
 # ---- chances
@@ -547,11 +549,11 @@ def check_fewer_answers(trial, report):
         reply = trial.ask(call)
         is_beginning = reply.status == calls.NO_ANSWER and report.transcript.startswith(reply.output)
         trial.hold("fewer answers: status 6 and a beginning", is_beginning, (call, reply), ("whole", report.transcript))
-        trial.expect("a beginning is no run", trial.runs(after=answers[:count]), calls.NO_RUN, b"")
+        trial.expect("a prefix is no run", trial.runs(after=answers[:count]), calls.NO_RUN, b"")
 
 
 def check_far_run(trial, listing):
-    """Of a tree that is too large to list: a run in the midst of it, and those behind it."""
+    """Of a tree that is too large to list: a run in the middle of it, and those after it."""
     run = far_run(trial)
     if run is None:
         return
@@ -559,7 +561,7 @@ def check_far_run(trial, listing):
     reports = reports_in(trial, call, trial.ask(call))
     runs = [run, *(report.answers for report in reports)]
     for one, following in zip(runs, runs[1:]):
-        trial.hold("runs behind a far one", raised_place(one, following) is not None, (call, "the reports"))
+        trial.hold("runs after a far one", raised_place(one, following) is not None, (call, "the reports"))
     for report in reports[:1]:
         check_plain(trial, report, listing)
         check_run(trial, report)
@@ -629,7 +631,7 @@ def cleaned(text):
 
 
 def check_full_device(trial, report):
-    """Where nothing can be written, that is told; a run that shows nothing has its own status."""
+    """If nothing can be written, that is reported; a run that shows nothing has its own status."""
     due = calls.UNWRITTEN if report.transcript else calls.ENDINGS[report.ending]
     full = replace(trial.plain(report.answers), stdout="/dev/full")
     trial.expect("a full device", full, due, b"")

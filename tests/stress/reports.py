@@ -10,7 +10,7 @@ HEADER = re.compile(
 
 @dataclass(frozen=True)
 class Report:
-    """A run's answers with their bounds, how it ended, how many commands it began, its transcript, and the bytes of the whole report."""
+    """A run's answers with their bounds, how it ended, its number of commands, its transcript, and the bytes of the report."""
 
     answers: tuple
     bounds: tuple
@@ -78,9 +78,9 @@ def without_bounds(report):
 
 
 def raised_place(run, following):
-    """The place at which the run's answer was raised for the run directly behind it; None if that one isn't.
+    """The place at which the run's answer was raised for the run directly after it; None if it isn't that run.
 
-    In front of that place both have the same answers, at it one more, and behind it each question was answered with 1.
+    Before that place both have the same answers, at it one more, and after it each question was answered with 1.
     """
     shorter = min(len(run), len(following))
     place = next((k for k in range(shorter) if run[k] != following[k]), shorter)

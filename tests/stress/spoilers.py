@@ -106,7 +106,7 @@ SPOILERS = {
     "takes a text for one with mistakes": lambda call, reply: (
         replace(reply, status=1) if is_check(call) and reply.status == 0 else reply
     ),
-    "lists a blank behind each line": lambda call, reply: (
+    "lists a blank after each line": lambda call, reply: (
         replace(reply, output=reply.output.replace(b"\n", b" \n")) if "--list" in call.words else reply
     ),
 }

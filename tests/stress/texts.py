@@ -147,7 +147,7 @@ class Maker:
         return self.command("INPUT") + ",".join(self.asked() for _ in range(self.pick([1, 1, 2])))
 
     def simple(self):
-        """A command behind which the next one follows."""
+        """A command that the next one follows."""
         return self.chance.choices([self.let, self.print, self.input], [50, 40, 10])[0]()
 
     def conditional(self, command):
@@ -347,8 +347,8 @@ def line_of(chance, number, statement):
     between = chance.choice([" ", " ", " ", "", "\t", "  "])
     # where a statement begins with a digit a blank can't be left out, and a long one has no room for more
     between = " " if statement[:1].isdigit() else between
-    behind = chance.choice(["", "", "", " ", "\t"]) if len(statement) < LONGEST_TEXT else ""
-    return f"{before}{number}{between}{statement}{behind}"
+    after = chance.choice(["", "", "", " ", "\t"]) if len(statement) < LONGEST_TEXT else ""
+    return f"{before}{number}{between}{statement}{after}"
 
 
 def input_of(maker):

@@ -213,7 +213,9 @@ class Csv(unittest.TestCase):
             self.assertEqual(data.decimal_of(chance), due)
 
     def test_safe_texts(self) -> None:
-        for text in "=1+1", "=NOW()", " =A", "+A", "-A", "@A", " =1", "'A", "\tA", "\rA", "1/2", "2-3", "MAR 1", "10:30", "1E5", "1.5", "-1.5", "A1", "1 2":
+        formulas = "=1+1", "=NOW()", " =A", "+A", "-A", "@A", " =1", "'A", "\tA", "\rA"
+        numbers_and_dates = "1/2", "2-3", "MAR 1", "10:30", "1E5", "1.5", "-1.5", "A1", "1 2"
+        for text in *formulas, *numbers_and_dates:
             self.assertEqual(data.safe(text), f"'{text}")
         for text in "", "RIGHT!", "     7", "-12", "7\n", "A=B", "IT WAS YOU":
             self.assertEqual(data.safe(text), text)
