@@ -153,6 +153,19 @@ digit_alone t i (Some b) s h =
 pub number_alone : FindingLaws → (t : List ℕ) (i : ℕ) → is_number (number_at t i).0 ≡ true → IsAlone t i
 number_alone laws t i e = digit_alone t i (next_byte_at t i) (laws.next t i) (sym (laws.next t i).number ∙ e)
 
+-- where a parenthesis is, no other factor begins
+pub record Opens (t : List ℕ) (i : ℕ) : Type 0 where
+  pub no_function : word_at Functions t i ≡ None
+  pub no_letter : letter_at t i ≡ None
+  pub no_element : token_at 64 t i ≡ None
+
+pub paren_opens : (t : List ℕ) (i : ℕ) → StandsNext t i (Some 40) → Opens t i
+paren_opens t i s = record {
+  no_function = s.word Functions refl;
+  no_letter = s.letter;
+  no_element = s.token 64;
+}
+
 number_before_end : FindingLaws → (t : List ℕ) (i j : ℕ) (v : ℤ) (next : Option ℕ) → number_at t i ≡ (Value v, j)
     → StandsNext t j next → is_over t j ≡ true → Spells t Expr i (Whole (Num v) j)
 number_before_end laws t i j v (Some b) here ends over = absurd (false≢true (sym ends.over ∙ over))

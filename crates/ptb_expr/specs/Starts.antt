@@ -1,13 +1,20 @@
 -- This file defines what is before a part of the grammar, or alone in its place.
 --     IsBefore t unary inner outer i j     between i and j is what makes `outer` of the part `inner` after it
---     signed sign operator mark xs         the steps xs of a product of a sum, with the operator or the sign before it
---     signed_room sign operator            how many steps that takes at most
+--     IsFirst before, IsNext before        whether that is before the first product of a sum, or before a later one
+--     sign_of before                       what is done with the first
+--     operator_of before                   the operator before a later one
+--     with_before before mark xs           the steps xs of a product with what is before it
+--     room_before before                   how many steps that takes at most
 --     BeginsFactor t start i j             between i and j is what a factor begins with
 --     start_room start                     how much room is needed for it
-use Rattle.std.specs.Prelude.{ℕ, List, ◌++◌, Option, Some, None}
+use Rattle.std.specs.Prelude.{ℕ, List, ◌++◌}
+use Rattle.ptb_expr.specs.declared.operator.Before.{Before}
+use Rattle.ptb_expr.specs.declared.operator.Before.TheVariants as befores
 use Rattle.ptb_expr.specs.declared.operator.Operator.{Operator}
+use Rattle.ptb_expr.specs.declared.operator.Operator.TheVariants as operators
 use Rattle.ptb_expr.specs.declared.step.Step.{Step}
 use Rattle.ptb_expr.specs.declared.step.Unary.{Unary}
+use Rattle.ptb_expr.specs.declared.step.Unary.TheVariants.{Itself, Minus}
 use Rattle.ptb_expr.specs.declared.fault.FaultKind.TheVariants.{How}
 use Rattle.ptb_expr.specs.declared.reader.Start.{Start}
 use Rattle.ptb_expr.specs.declared.reader.Start.TheVariants as starts
@@ -21,14 +28,36 @@ abbrev pub IsBefore : List ℕ → Unary → Part → Part → ℕ → ℕ → T
 IsBefore t unary inner outer i j =
     (r : Reading Tree) → Spells t inner j r → Spells t outer i (node_over (node_of unary) j r)
 
--- the steps of a product after the operator before it; the first has none, and the sign is before it
-abbrev pub signed : Unary → Option Operator → ℕ → List Step → List Step
-signed sign None m xs = xs ++ unary_steps sign m
-signed sign (Some op) m xs = with_operator op m xs
+-- the first product has no operator before it, and each later one has
+abbrev pub IsFirst : Before → Type 0
+IsFirst befores.Nothing = Unit {0}
+IsFirst befores.Sign = Unit {0}
+IsFirst _ = ⊥
 
-abbrev pub signed_room : Unary → Option Operator → ℕ
-signed_room sign None = room_of sign
-signed_room sign (Some op) = 1
+abbrev pub IsNext : Before → Type 0
+IsNext befores.Plus = Unit {0}
+IsNext befores.Minus = Unit {0}
+IsNext _ = ⊥
+
+-- what is done with the first product
+abbrev pub sign_of : Before → Unary
+sign_of befores.Sign = Minus
+sign_of _ = Itself
+
+-- the operator before a later one
+abbrev pub operator_of : Before → Operator
+operator_of befores.Minus = operators.Minus
+operator_of _ = operators.Plus
+
+abbrev pub with_before : Before → ℕ → List Step → List Step
+with_before befores.Plus m xs = with_operator operators.Plus m xs
+with_before befores.Minus m xs = with_operator operators.Minus m xs
+with_before befores.Nothing m xs = xs
+with_before befores.Sign m xs = xs ++ unary_steps Minus m
+
+abbrev pub room_before : Before → ℕ
+room_before befores.Nothing = 0
+room_before _ = 1
 
 abbrev pub BeginsFactor : List ℕ → Start → ℕ → ℕ → Type 0
 BeginsFactor t (starts.Number v) i j = Spells t Factor i (Whole (Num v) j)
