@@ -8,7 +8,7 @@ tried() { echo "$*" >>"$folder/scripts"; }
 
 # run SCRIPT ARGUMENT..: runs a script, and leaves what it prints and its status in files of its name
 run() {
-    "$root/tests/$1" "${@:2}" >"$folder/$1.output" 2>&1
+    "$root/tests/$1" "${@:2}" >"$folder/$1.output" 2>"$folder/$1.errors"
     echo $? >"$folder/$1.status"
 }
 
@@ -17,6 +17,7 @@ run() {
 counted() {
     local last
     echo "== $1"
+    cat "$folder/$1.errors" >&2
     cat "$folder/$1.output"
     last=$(tail -n 1 "$folder/$1.output")
     if [[ $last =~ ^([0-9]+)\ passed,\ ([0-9]+)\ failed$ ]] &&
