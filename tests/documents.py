@@ -41,7 +41,7 @@ from stage import ROOT, staged
 
 PAGES_AT_THE_TOP = ["README.md", "CHANGELOG.md", "CONTRIBUTING.md", "SECURITY.md"]
 SPECIFICATION = "specs/README.md"
-ALL_PAGES = [*PAGES_AT_THE_TOP, "docs/*.md", "docs/*.1", "examples/README.md", SPECIFICATION, "tests/README.md"]
+ALL_PAGES = [*PAGES_AT_THE_TOP, "docs/*.md", "docs/*.1", "examples/README.md", SPECIFICATION, "tests/README.md", "tools/README.md"]
 LINES_OF_A_PAGE = {"README.md": 200, "CONTRIBUTING.md": 150, "docs/ARCHITECTURE.md": 200, SPECIFICATION: 125}
 DECISIONS = "docs/DECISIONS.md"
 LINES_OF_A_DECISION = 8
