@@ -1,7 +1,7 @@
 #!/usr/bin/env python3
 """Measures what each crate costs, and writes it into the tables of docs/gate.md: bench/gate.py build | gate
 
-`build` runs ./build, and `gate` runs rt ci, both in the root of this repository, which should be a fresh clone on a machine
+`build` runs ./build, and `gate` runs rt ci --anew, both in the root of this repository, which should be a fresh clone on a machine
 on which nothing else runs. With `taskset -c 0,1` before the command it is measured on two cores.
 
 While the command runs, the processes of the prover below it are watched. A first build gives the seconds from the start of a crate
@@ -20,7 +20,7 @@ from pathlib import Path
 
 ROOT = Path(__file__).resolve().parent.parent
 PAGE = ROOT / "docs/gate.md"
-COMMANDS = {"build": ["./build"], "gate": ["rt", "ci"]}
+COMMANDS = {"build": ["./build"], "gate": ["rt", "ci", "--anew"]}
 CORES = {1: "one", 2: "two", 4: "four", 8: "eight"}
 TICKS = os.sysconf("SC_CLK_TCK")
 FUNCTION = re.compile(r"^ *(?:pub(?:\([a-z]+\))? )?fn ", re.M)

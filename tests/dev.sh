@@ -49,6 +49,8 @@ count_if 'test of one script' starts 'tests/stress.sh <7> <60> in a copy, no job
 count_if 'bench' starts 'bench/time.sh <a> in a copy, no jobs' bench time.sh a
 count_if 'gate' starts 'rt <ci> in a copy, 4 jobs' gate
 RT_JOBS=2 count_if 'gate with other jobs' starts 'rt <ci> in a copy, 2 jobs' gate
+count_if 'gate of two crates' starts 'rt <ci> <ptb_text> <ptb> in a copy, 4 jobs' gate text ptb
+count_if 'gate of a crate that is missing' refuses "no crate 'nosuch'" gate text nosuch
 count_if 'release' starts 'tools/release <../release> in a copy, no jobs' release ../release
 count_if 'more bugs of all crates' starts 'tools/try-bugs <--more> in a copy, no jobs' bugs --more
 count_if 'of two crates' starts 'tools/try-bugs <--more> <ptb_text> <ptb> in a copy, no jobs' bugs --more text ptb
