@@ -67,12 +67,12 @@ fn command_at(text: &[u8], place: usize) -> Option<(Word, usize)>
     ensures word { IfSome result (λ found. IsCommand found.0) }
 {
     match text[place] {
-        b'N' => spelled_word(text, place, Word::NextKw, b"NEXT"),
-        b'L' => spelled_word(text, place, Word::LetKw, b"LET"),
         b'I' => {
             let found_if = spelled_word(text, place, Word::IfKw, b"IF");
             found_if.or_else(|| spelled_word(text, place, Word::InputKw, b"INPUT"))
         }
+        b'N' => spelled_word(text, place, Word::NextKw, b"NEXT"),
+        b'L' => spelled_word(text, place, Word::LetKw, b"LET"),
         b'G' => {
             let found_goto = spelled_word(text, place, Word::GotoKw, b"GOTO");
             found_goto.or_else(|| spelled_word(text, place, Word::GosubKw, b"GOSUB"))
