@@ -80,9 +80,9 @@ pub struct Line {
 impl Model for Line {
     ghost Value = { List ℕ };
 
-    ghost view = { λ l. l.bytes.items };
-
     ghost invariant = { λ l. IsClean l.bytes.items };
+
+    ghost view = { λ l. l.bytes.items };
 }
 
 impl Line {

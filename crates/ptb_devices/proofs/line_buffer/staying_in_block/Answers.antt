@@ -23,7 +23,8 @@ returns c =
     let v = chunk c.args.from 16 bytes in
     let long = length-chunk c.args.from 16 bytes c.requires in
     let lanes = zip2_of_maps bit_or (λ b. cond (ltb b 32) 255 0) (λ b. cond (leb 127 b) 255 0) v
-    (zip2_splat {Y = ℕ} (λ a b. cond (ltb a b) 255 0) v 16 32 long) (zip2_splat_left {X = ℕ} (λ a b. cond (leb a b) 255 0) 127 16 v long) in
+    (zip2_splat {Y = ℕ} (λ a b. cond (ltb a b) 255 0) v 16 32 long)
+    (zip2_splat_left {X = ℕ} (λ a b. cond (leb a b) 255 0) 127 16 v long) in
     let mask = ap (λ l. mask_l l % 2 ^ 64) (ap (map (top 7)) lanes ∙ map-map (top 7) lane v)
     ∙ mask_l-mod (map stops v) 64 (omega (arith, length-map v stops, long)) in
     let counted : c.first_set.result ≡ prefix_len (λ b. not (stops b)) v = c.first_set.ensures
