@@ -21,7 +21,8 @@ some_none e = cc
 abbrev pub found_loop : OpenLoop → List Open → Option (OpenLoop × List Open)
 found_loop m os = Some (m, os)
 
-pub same_pair : (m m' : OpenLoop) (os below : List Open) → found_loop m os ≡ found_loop m' below → (m ≡ m') × (os ≡ below)
+pub same_pair : (m m' : OpenLoop) (os below : List Open) → found_loop m os ≡ found_loop m' below
+    → (m ≡ m') × (os ≡ below)
 same_pair m m' os below e = (
   ap (λ (o : Option (OpenLoop × List Open)). elim o [ Some y ↦ y.0 | None ↦ m ]) e,
   ap (λ (o : Option (OpenLoop × List Open)). elim o [ Some y ↦ y.1 | None ↦ os ]) e,
