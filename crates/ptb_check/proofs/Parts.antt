@@ -14,7 +14,7 @@ use Rattle.ptb_expr.specs.Spells.{SpellingLaws}
 use Rattle.ptb_expr.specs.Tree.{Tree, Num, Var, Bad}
 use Rattle.ptb_expr.specs.Value.{fault}
 use Rattle.ptb_code.specs.Commands.{Part, Assign, Width, Show, NewLine, Take, Letter, Operand}
-use Rattle.ptb_code.specs.Commands.{at_end, defect, end_check, over_check, part_and, after_part}
+use Rattle.ptb_code.specs.Commands.{command_ends, defect, end_check, over_check, part_and, after_part}
 use Rattle.ptb_code.specs.Commands.{comma_round, value_part, assignment, string_at}
 use Rattle.ptb_code.specs.Commands.{string_or_value, width_or, print_item, next_item, after_item}
 use Rattle.ptb_code.specs.Commands.{item_round, print_parts_if, print_parts, variable_begins}
@@ -88,7 +88,7 @@ module _ (spelling : SpellingLaws) (laws : CommandLaws) (t : List ℕ) where
   whole_or_defect i false = refl
 
   end_tells : (i : ℕ) → Tells parts_fault (end_check t i)
-  end_tells i = whole_or_defect i (at_end t i)
+  end_tells i = whole_or_defect i (command_ends t i)
 
   over_tells : (i : ℕ) → Tells parts_fault (over_check t i)
   over_tells i = whole_or_defect i (is_over t i)
@@ -172,13 +172,13 @@ module _ (spelling : SpellingLaws) (laws : CommandLaws) (t : List ℕ) where
       by_next j false = h
 
       by_comma : (o : Option ℕ) → RoundTells (after_item t part i o)
-      by_comma (Some j) = by_next j (at_end t j)
+      by_comma (Some j) = by_next j (command_ends t j)
       by_comma None =
           front_tells part (in_front NewLine (end_check t i)) h (front_tells NewLine (end_check t i) refl (end_tells i))
 
   print_tells : (i : ℕ) → Tells parts_fault (print_parts t i)
   unfolding print_parts
-  print_tells i = by_end (at_end t i)
+  print_tells i = by_end (command_ends t i)
     where
       by_end : (b : Bool) → Tells parts_fault (print_parts_if t i b)
       by_end true = refl

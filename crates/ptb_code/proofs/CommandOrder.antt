@@ -16,7 +16,7 @@ use Rattle.ptb_expr.specs.Reading.{Reading, Whole, Malformed, after, map_reading
 use Rattle.ptb_expr.specs.Spells.{SpellingLaws}
 use Rattle.ptb_code.specs.Items.{Round, Last, Onward, in_front, with_others, items_within, items, Advances, LiesOn}
 use Rattle.ptb_code.specs.Commands.{Part, Assign, Show, NewLine, Letter, Operand, Command}
-use Rattle.ptb_code.specs.Commands.{at_end, defect, end_check, over_check, part_and, after_part}
+use Rattle.ptb_code.specs.Commands.{command_ends, defect, end_check, over_check, part_and, after_part}
 use Rattle.ptb_code.specs.Commands.{comma_round, value_part, assignment, or_quotation, string_at}
 use Rattle.ptb_code.specs.Commands.{string_or_value, width_or, print_item, next_item, after_item}
 use Rattle.ptb_code.specs.Commands.{item_round, print_parts_if, print_parts, variable_item}
@@ -138,7 +138,7 @@ module _ (finding : FindingLaws) (spelling : SpellingLaws) (t : List ℕ) where
   -- ---- ends
 
   end_on : (i : ℕ) → EndsOn t i (end_check t i)
-  end_on i = by_end (at_end t i)
+  end_on i = by_end (command_ends t i)
     where
       by_end : (b : Bool) → EndsOn t i (cond b (Whole [] i) (defect i))
       by_end true = stays t i
@@ -312,7 +312,7 @@ module _ (finding : FindingLaws) (spelling : SpellingLaws) (t : List ℕ) where
 
   print_on : (i : ℕ) → EndsOn t i (print_parts t i)
   unfolding print_parts
-  print_on i = by_end (at_end t i)
+  print_on i = by_end (command_ends t i)
     where
       by_end : (b : Bool) → EndsOn t i (print_parts_if t i b)
       by_end true = stays t i

@@ -5,7 +5,7 @@ use Rattle.ptb_text.specs.Words.{token_at, QuotedText}
 use Rattle.ptb_expr.specs.Reading.{Reading, Whole, Malformed, item_of, map_reading}
 use Rattle.ptb_expr.specs.Evaluate.{IsWhole}
 use Rattle.ptb_code.specs.Items.{Last, Onward, in_front, items}
-use Rattle.ptb_code.specs.Commands.{Part, Say, NewLine, at_end, end_check, string_at}
+use Rattle.ptb_code.specs.Commands.{Part, Say, NewLine, command_ends, end_check, string_at}
 use Rattle.ptb_code.specs.Commands.{string_or_value, width_or, print_item, next_item, after_item}
 use Rattle.ptb_code.specs.Commands.{item_round, print_parts_if, print_parts}
 
@@ -29,24 +29,24 @@ module _ (t : List ℕ) (i : ℕ) where
   round_closed j h e = ap (item_round t) h ∙ ap (after_item t (item_of (print_item t i)) j) e
 
   -- a comma, and the end
-  pub round_open : (j k : ℕ) → IsWhole (print_item t i) j → token_at 44 t j ≡ Some k → at_end t k ≡ true
+  pub round_open : (j k : ℕ) → IsWhole (print_item t i) j → token_at 44 t j ≡ Some k → command_ends t k ≡ true
       → item_round t (print_item t i) ≡ Last (Whole (item_of (print_item t i) ∷ []) k)
   round_open j k h e a = ap (item_round t) h ∙ ap (after_item t (item_of (print_item t i)) j) e
       ∙ ap (next_item t (item_of (print_item t i)) k) a
 
   -- a comma, and the next item
-  pub round_on : (j k : ℕ) → IsWhole (print_item t i) j → token_at 44 t j ≡ Some k → at_end t k ≡ false
+  pub round_on : (j k : ℕ) → IsWhole (print_item t i) j → token_at 44 t j ≡ Some k → command_ends t k ≡ false
       → item_round t (print_item t i) ≡ Onward (item_of (print_item t i)) k
   round_on j k h e a = ap (item_round t) h ∙ ap (after_item t (item_of (print_item t i)) j) e
       ∙ ap (next_item t (item_of (print_item t i)) k) a
 
   -- ---- all items
 
-  pub print_nothing : at_end t i ≡ true → print_parts t i ≡ Whole (NewLine ∷ []) i
+  pub print_nothing : command_ends t i ≡ true → print_parts t i ≡ Whole (NewLine ∷ []) i
   unfolding print_parts
   print_nothing e = ap (print_parts_if t i) e
 
-  pub print_something : at_end t i ≡ false → print_parts t i ≡ items t (λ j. item_round t (print_item t j)) i
+  pub print_something : command_ends t i ≡ false → print_parts t i ≡ items t (λ j. item_round t (print_item t j)) i
   unfolding print_parts
   print_something e = ap (print_parts_if t i) e
 

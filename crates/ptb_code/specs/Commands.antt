@@ -45,8 +45,8 @@ pub record Command : Type 0 where
 -- ---- ends
 
 -- the text is over, or `;` is next
-abbrev pub at_end : List ℕ → ℕ → Bool
-at_end t i = is_over t i || is_some (token_at 59 t i)
+abbrev pub command_ends : List ℕ → ℕ → Bool
+command_ends t i = is_over t i || is_some (token_at 59 t i)
 
 -- something other than what must be at i
 abbrev pub defect : ℕ → Reading (List Part)
@@ -54,7 +54,7 @@ defect i = Malformed (Defect What i ∷ [])
 
 -- a command ends at i
 abbrev pub end_check : List ℕ → ℕ → Reading (List Part)
-end_check t i = if at_end t i then Whole [] i else defect i
+end_check t i = if command_ends t i then Whole [] i else defect i
 
 -- the text is over at i
 abbrev pub over_check : List ℕ → ℕ → Reading (List Part)
@@ -115,7 +115,7 @@ next_item t part j true = Last (Whole (part ∷ []) j)
 next_item t part j false = Onward part j
 
 abbrev pub after_item : List ℕ → Part → ℕ → Option ℕ → Round Part
-after_item t part i (Some j) = next_item t part j (at_end t j)
+after_item t part i (Some j) = next_item t part j (command_ends t j)
 after_item t part i None = Last (in_front part (in_front NewLine (end_check t i)))
 
 abbrev pub item_round : List ℕ → Reading Part → Round Part
@@ -128,7 +128,7 @@ print_parts_if t i false = items t (λ j. item_round t (print_item t j)) i
 
 -- a newline alone, or items
 unfoldable pub print_parts : List ℕ → ℕ → Reading (List Part)
-print_parts t i = print_parts_if t i (at_end t i)
+print_parts t i = print_parts_if t i (command_ends t i)
 
 -- ---- INPUT
 

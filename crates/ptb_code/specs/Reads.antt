@@ -12,7 +12,7 @@ use Rattle.ptb_text.specs.Words.{word_at, token_at, letter_at}
 use Rattle.ptb_text.specs.Finding.{LiesAhead}
 use Rattle.ptb_expr.specs.Reading.{Reading}
 use Rattle.ptb_expr.specs.Evaluate.{IsWhole}
-use Rattle.ptb_code.specs.Commands.{Part, at_end, parts_of, command_of, command_at}
+use Rattle.ptb_code.specs.Commands.{Part, command_ends, parts_of, command_of, command_at}
 
 pub record IsRead {A : Type 0} (t : List ℕ) (i : ℕ) (r : Reading A) (j : ℕ) : Type 0 where
   pub whole : IsWhole r j
@@ -22,7 +22,7 @@ pub record IsClosed (t : List ℕ) (i : ℕ) (r : Reading (List Part)) (j : ℕ)
   pub whole : IsWhole r j
   pub from : i ≤ j
   pub within : j ≤ length t
-  pub ends : at_end t j ≡ true
+  pub ends : command_ends t j ≡ true
 
 -- j is the place of the command after one that ends at i: after `;`, or there
 abbrev pub NextBegins : List ℕ → ℕ → ℕ → Type 0
@@ -44,5 +44,5 @@ pub record IsNext (t : List ℕ) (i letter next : ℕ) : Type 0 where
   pub is : letter_at t i ≡ Some (letter, end)
   pub from : i ≤ end
   pub within : end ≤ length t
-  pub ends : at_end t end ≡ true
+  pub ends : command_ends t end ≡ true
   pub follows : NextBegins t end next

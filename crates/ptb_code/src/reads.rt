@@ -2,14 +2,14 @@
 
 ghost use Rattle.std.specs.Prelude.{◌≡◌, ◌≤◌, length};
 ghost use Rattle.ptb_text.specs.Words.{IsCommand};
-ghost use Rattle.ptb_code.specs.Commands.{at_end};
+ghost use Rattle.ptb_code.specs.Commands.{command_ends};
 ghost use Rattle.ptb_code.specs.Reads.{IsFirstWord};
 
 use ptb_text::{Cursor, Table, Word, finding_laws};
 
 /// Whether a command ends at the cursor: the text is over, or `;` is next.
-pub(crate) fn at_end(cursor: &Cursor) -> bool
-    ensures { result ≡ at_end cursor.now.text cursor.now.place }
+pub(crate) fn command_ends(cursor: &Cursor) -> bool
+    ensures { result ≡ command_ends cursor.now.text cursor.now.place }
 {
     match cursor.next_byte() {
         Some(byte) => byte == b';',

@@ -8,7 +8,7 @@ use Rattle.ptb_expr.specs.Reading.{Whole, item_of}
 use Rattle.ptb_expr.specs.Value.{fault, or_fault}
 use Rattle.ptb_command.specs.declared.stop.Stop.{Stop}
 use Rattle.ptb_code.specs.Commands.{Part, Say, Width, Show, NewLine, Letter, Operand, Defect}
-use Rattle.ptb_code.specs.Commands.{at_end, defect, end_check}
+use Rattle.ptb_code.specs.Commands.{command_ends, defect, end_check}
 use Rattle.ptb_command.specs.Actions.{Faults, Action, and_then, goes_on, halt, show, work_action}
 use Rattle.ptb_command.specs.Act.{value_action, padded_decimal, width_of, newline, parts_action}
 use Rattle.ptb_command.specs.Devices.{Refusal}
@@ -190,10 +190,10 @@ module _ (rest : List Part) (w : ℕ) (operands : List ℤ) where
 
 -- ---- ends
 
-pub end_there : (t : List ℕ) (i : ℕ) → at_end t i ≡ true → end_check t i ≡ Whole [] i
+pub end_there : (t : List ℕ) (i : ℕ) → command_ends t i ≡ true → end_check t i ≡ Whole [] i
 end_there t i e = ap (λ (b : Bool). if b then Whole [] i else defect i) e
 
-pub end_refines_part : (o : Trace) (t : List ℕ) (i w : ℕ) (operands : List ℤ) → at_end t i ≡ true
+pub end_refines_part : (o : Trace) (t : List ℕ) (i w : ℕ) (operands : List ℤ) → command_ends t i ≡ true
     → RefinesPart o o (parts_action (item_of (end_check t i)) w operands) (goes_on operands)
 end_refines_part o t i w operands e =
     subst (λ (f : Action (List ℤ)). RefinesPart o o f (goes_on operands))
