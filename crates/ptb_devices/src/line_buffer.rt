@@ -2,11 +2,9 @@
 
 ghost use Rattle.std.specs.Prelude.{◌≡◌, ◌↔◌, ◌+◌, ◌<◌, ◌≤◌, true, false, [], length, slice_range, take, IsSome};
 ghost use Rattle.std.specs.Prelude.{◌==◌, if◌then◌else◌, IsTrue, IfOk, IfErr, IfSome, MatchBool};
-ghost use Rattle.std.specs.Int.{w64, trailing_zeros};
 ghost use Rattle.ptb_devices.specs.Prelude.{sem, Rests, line_limit, kept_bytes, IsLine, Open, fresh_input, fault_at};
 ghost use Rattle.ptb_devices.specs.Prelude.{open_piece, input_now, CutsLine, CutsAll, TakesWhole, ReadsOn, Refuses};
-ghost use Rattle.ptb_devices.specs.CutLines.{StayUpTo};
-ghost use Rattle.ptb_devices.specs.contracts.line_buffer.LineBuffer.{the_row};
+ghost use Rattle.ptb_devices.specs.Prelude.{StayUpTo, w64, trailing_zeros};
 
 use crate::cutter::{LINE_LIMIT, LineCutter, stays};
 use crate::whole_input::{BUFFER_SIZE, INPUT_LIMIT};
@@ -65,6 +63,8 @@ impl Model for LineBuffer {
 }
 
 impl LineBuffer {
+    ghost use Rattle.ptb_devices.specs.contracts.line_buffer.LineBuffer.{the_row};
+
     /// A buffer to which nothing came.
     pub(crate) fn new() -> Self
         ensures { result ≡ fresh_input }
