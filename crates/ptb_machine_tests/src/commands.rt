@@ -1,10 +1,15 @@
 // This file tests what each command does, and where a run is.
 
-use crate::shared::{MEMORY, execute_first, expect_same, fault, letter, plain_rules};
-use ptb_code::{Location, OpenLoop, Stack, first_place, is_zero, next_command, place_after};
-use ptb_command::{CommandIo, Registers, SavedRegisters, Stop, put};
-use ptb_devices::{Line, Lines, TextScreen};
-use ptb_expr::{Listed, Pause, Store};
+use crate::shared::{
+    Doing, Given, MEMORY, NO_ANSWER, doing, done, expect_same, fault, letter, lines_of, numbers,
+    plain_rules, with_line,
+};
+use ptb_command::{
+    Location, OpenLoop, Output, Registers, SavedRegisters, Stack, Stop, first_place, is_zero,
+    next_command, place_after, put,
+};
+use ptb_devices::TextScreen;
+use ptb_expr::Store;
 use ptb_machine::{line_at, start_of};
 use ptb_text::{Letter, LoadFault, Program};
 use std::alloc::{AllocError, Global};
@@ -35,11 +40,6 @@ fn program_or_refusal(
     }
 }
 
-// The two numbers of a place.
-fn numbers(place: Option<Location>) -> Option<(usize, usize)> {
-    place.map(|place| (place.statement, place.at))
-}
-
 // Opens a loop of a letter up to 1, or of another than A up to 0, and else a call.
 fn open(stack: &mut Stack, byte: u8) -> bool {
     let back = Location {
@@ -68,153 +68,179 @@ fn closed(stack: &mut Stack) -> usize {
     3
 }
 
-// Does the first command of a program, with the answer 4. How it was done, and whether the
-// transcript is fresh then.
-fn done(
-    registers: &mut Registers,
-    program: &Program,
-    screen: &mut TextScreen,
-    lines: &[Line],
-) -> (Result<(), Stop>, bool) {
-    let mut list = Listed::new(&[4]);
-    let mut source = Lines::new(lines);
-    let mut io = CommandIo::new(&mut list, screen, &mut source, true, plain_rules(1));
-    let result = execute_first(program, registers, &mut io);
-    (result, io.fresh)
-}
-
-// A program of a line and a STOP, and its registers, where A holds this.
-fn begun(alloc: Global, line: &str, a: i16) -> Result<(Program, Registers), Fail> {
-    let program = program(alloc, line.as_bytes(), b"20 STOP")?;
-    let mut registers = Registers::new(alloc, &program)?;
-    registers.store.set(letter(b'A'), a);
-    Ok((program, registers))
-}
-
-// Commands that open and close nothing, where A is 1: how each is done, the next place, what is
-// shown, and A.
-const COMMANDS: &[(&str, Result<(), Stop>, (usize, usize), &[u8], i16)] = &[
-    ("10 REM X;P.1", Ok(()), (1, 0), b"", 1),
-    ("10 STOP", Err(Stop::Ended), (0, 0), b"", 1),
-    ("10 STOP;", fault!(What, 4), (0, 0), b"", 1),
-    ("10 GOTO 20", Ok(()), (1, 0), b"", 1),
-    ("10 GOTO 30", fault!(How, 7), (0, 0), b"", 1),
-    ("10 GOTO 20;", fault!(What, 7), (0, 0), b"", 1),
-    ("10 IF A P.1", Ok(()), (0, 5), b"", 1),
-    ("10 IF A=2 P.(", Ok(()), (1, 0), b"", 1),
-    ("10 LET A=2;P.A", Ok(()), (0, 8), b"", 2),
-    ("10 A=RND(6) ;P.A", Ok(()), (0, 10), b"", 4),
-    ("10 A=RND(6),A=RND(6)", NO_ANSWER, (0, 0), b"", 4),
-    ("10 A=1/0", fault!(How, 5), (0, 0), b"", 1),
-    ("10 PRINT A,\"X\";STOP", Ok(()), (0, 12), b"     1X\n", 1),
-    ("10 PRINT A,", Ok(()), (0, 8), b"     1", 1),
-    ("10 PRINT 1 2", fault!(What, 8), (0, 0), b"     1\n", 1),
-    ("10 INPUT A;P.A", Ok(()), (0, 8), b"A:5\n", 5),
-    ("10 INPUT A,A", Err(Stop::NoInput), (0, 0), b"A:5\nA:", 5),
-    // one malformed command of each kind that is not above
-    ("10 LET A 2", fault!(What, 6), (0, 0), b"", 1),
-    ("10 IF", fault!(What, 2), (0, 0), b"", 1),
-    ("10 IF A*(2 P.1", fault!(What, 8), (0, 0), b"", 1),
-    ("10 GOTO", fault!(What, 4), (0, 0), b"", 1),
-    ("10 PRINT 'X", fault!(What, 6), (0, 0), b"", 1),
-    ("10 INPUT 5", fault!(What, 6), (0, 0), b"", 1),
-    ("10 INPUT A,", fault!(What, 8), (0, 0), b"A:5\n", 5),
-    ("10 FOR 5", fault!(What, 4), (0, 0), b"", 1),
-    ("10 NEXT 5", fault!(What, 5), (0, 0), b"", 1),
-    ("10 GOSUB 20,", fault!(What, 8), (0, 0), b"", 1),
-    ("10 RETURN 5", fault!(What, 7), (0, 0), b"", 1),
-];
-
-const NO_ANSWER: Result<(), Stop> = Err(Stop::Pause(Pause::Ended));
+// What a command does, what it shows, A, and the element 3.
+pub(crate) type Effect<'a> = (Doing, &'a [u8], i16, i16);
 
 // Whether a transcript of these bytes is fresh.
 fn is_fresh(shown: &[u8]) -> bool {
     matches!(shown.last(), None | Some(b'\n'))
 }
 
+// A command, where A holds this, has this effect. One that stops leaves the place as it was.
+pub(crate) fn expect_command(
+    rt: &impl Abort,
+    alloc: Global,
+    (line, a): (&str, i16),
+    given: Given<'_>,
+    (want, shown, a_then, element): Effect<'_>,
+) -> Result<(), Fail> {
+    let (program, mut registers) = with_line(alloc, line, a)?;
+    let mut screen = TextScreen::new(alloc);
+    let (result, fresh) = done(
+        &program,
+        &mut registers,
+        given,
+        &mut screen,
+        &mut Output::new(),
+    );
+    let stays = result.is_ok() || numbers(registers.place) == Some((0, 0));
+    let effect = (doing(result, &registers), screen.bytes());
+    let stored = (
+        registers.store.get(letter(b'A')),
+        registers.store.element(3),
+    );
+    expect_same(
+        rt,
+        line,
+        (effect, stays, fresh),
+        ((want, shown), true, is_fresh(shown)),
+    );
+    expect_same(rt, line, stored, (a_then, Ok(element)));
+    Ok(())
+}
+
+// Commands that open and close nothing, where A is 1, with a line and an answer: what is done and
+// shown, and A.
+const COMMANDS: &[(&str, Doing, &[u8], i16)] = &[
+    ("10 REM X;P.1", Ok((1, 0)), b"", 1),
+    ("10 STOP", Err(Stop::Ended), b"", 1),
+    ("10 STOP;", fault!(What, 4), b"", 1),
+    ("10 GOTO 20", Ok((1, 0)), b"", 1),
+    ("10 GOTO 30", fault!(How, 7), b"", 1),
+    ("10 GOTO 20;", fault!(What, 7), b"", 1),
+    ("10 IF A P.1", Ok((0, 5)), b"", 1),
+    ("10 IF A=2 P.(", Ok((1, 0)), b"", 1),
+    ("10 LET A=2;P.A", Ok((0, 8)), b"", 2),
+    ("10 A=RND(6) ;P.A", Ok((0, 10)), b"", 4),
+    ("10 A=RND(6),A=RND(6)", NO_ANSWER, b"", 4),
+    ("10 A=1/0", fault!(How, 5), b"", 1),
+    ("10 PRINT A,\"X\";STOP", Ok((0, 12)), b"     1X\n", 1),
+    ("10 PRINT A,", Ok((0, 8)), b"     1", 1),
+    ("10 PRINT 1 2", fault!(What, 8), b"     1\n", 1),
+    ("10 INPUT A;P.A", Ok((0, 8)), b"A:5\n", 5),
+    ("10 INPUT A,A", Err(Stop::NoInput), b"A:5\nA:", 5),
+    // one malformed command of each kind that is not above
+    ("10 LET A 2", fault!(What, 6), b"", 1),
+    ("10 IF", fault!(What, 2), b"", 1),
+    ("10 IF A*(2 P.1", fault!(What, 8), b"", 1),
+    ("10 GOTO", fault!(What, 4), b"", 1),
+    ("10 PRINT 'X", fault!(What, 6), b"", 1),
+    ("10 INPUT 5", fault!(What, 6), b"", 1),
+    ("10 INPUT A,", fault!(What, 8), b"A:5\n", 5),
+    ("10 FOR 5", fault!(What, 4), b"", 1),
+    ("10 NEXT 5", fault!(What, 5), b"", 1),
+    ("10 GOSUB 20,", fault!(What, 8), b"", 1),
+    ("10 RETURN 5", fault!(What, 7), b"", 1),
+];
+
 #[test]
 fn commands(rt: HostRuntime) -> Result<(), Fail> {
-    let lines = [Line::clean(rt.alloc(), b"5")?];
-    for &(line, want, place, shown, a) in COMMANDS {
-        let (program, mut registers) = begun(rt.alloc(), line, 1)?;
-        let mut screen = TextScreen::new(rt.alloc());
-        let (result, fresh) = done(&mut registers, &program, &mut screen, &lines);
-        let place_then = numbers(registers.place);
-        let a_then = registers.store.get(letter(b'A'));
-        let found = (result, place_then, screen.bytes(), fresh, a_then);
-        let due = (want, Some(place), shown, is_fresh(shown), a);
-        expect_same(&rt, line, found, due);
+    let lines = lines_of(rt.alloc(), &[b"5"])?;
+    let given = Given {
+        lines: &lines,
+        answers: &[4],
+        rules: plain_rules(1),
+    };
+    for &(line, want, shown, a) in COMMANDS {
+        expect_command(&rt, rt.alloc(), (line, 1), given, (want, shown, a, 0))?;
     }
     Ok(())
 }
 
-// Commands that open or close, where A and B are 0: what is open before, how each is done, the next
-// place, A, to where the newest call returns, and how many are open below it, or without a call.
-const LOOPS_AND_CALLS: &[(
-    &str,
-    &[u8],
-    Result<(), Stop>,
-    (usize, usize),
-    i16,
-    Option<(usize, usize)>,
-    usize,
-)] = &[
-    ("10 GOSUB 20;P.1", b"", Ok(()), (1, 0), 0, Some((0, 9)), 0),
-    ("10 GOSUB 30", b"", fault!(How, 8), (0, 0), 0, None, 0),
-    ("10 RETURN", b"(A", Ok(()), (1, 2), 0, None, 0),
-    ("10 RETURN", b"A", fault!(What, 6), (0, 0), 0, None, 1),
-    ("10 FOR A=3 TO 5;P.1", b"", Ok(()), (0, 13), 3, None, 1),
-    ("10 FOR A=3 S.2", b"", fault!(What, 8), (0, 0), 3, None, 0),
+// Commands that open or close, where A and B are 0: what is open before, what is done, A, to where
+// the newest call returns, and how many are open below it, or without a call.
+const LOOPS_AND_CALLS: &[(&str, &[u8], Doing, i16, Option<(usize, usize)>, usize)] = &[
+    ("10 GOSUB 20;P.1", b"", Ok((1, 0)), 0, Some((0, 9)), 0),
+    ("10 GOSUB 30", b"", fault!(How, 8), 0, None, 0),
+    ("10 RETURN", b"(A", Ok((1, 2)), 0, None, 0),
+    ("10 RETURN", b"A", fault!(What, 6), 0, None, 1),
+    ("10 FOR A=3 TO 5;P.1", b"", Ok((0, 13)), 3, None, 1),
+    ("10 FOR A=3 S.2", b"", fault!(What, 8), 3, None, 0),
     // the first value is stored before the limit and the step are evaluated
-    (
-        "10 FOR A=3 TO 1/0",
-        b"",
-        fault!(How, 14),
-        (0, 0),
-        3,
-        None,
-        0,
-    ),
-    (
-        "10 F.A=A+1TO 9S.A/0",
-        b"",
-        fault!(How, 16),
-        (0, 0),
-        1,
-        None,
-        0,
-    ),
-    ("10 F.A=2TO A,", b"", fault!(What, 9), (0, 0), 2, None, 0),
-    ("10 F.A=1/0TO 9", b"", fault!(How, 7), (0, 0), 0, None, 0),
-    ("10 NEXT A", b"A", Ok(()), (1, 2), 1, None, 1),
-    ("10 NEXT A", b"AB", Ok(()), (1, 2), 1, None, 1),
-    ("10 NEXT B;P.1", b"AB", Ok(()), (0, 7), 0, None, 1),
-    (
-        "10 NEXT A",
-        b"A(",
-        fault!(What, 6),
-        (0, 0),
-        0,
-        Some((1, 2)),
-        1,
-    ),
+    ("10 FOR A=3 TO 1/0", b"", fault!(How, 14), 3, None, 0),
+    ("10 F.A=A+1TO 9S.A/0", b"", fault!(How, 16), 1, None, 0),
+    ("10 F.A=2TO A,", b"", fault!(What, 9), 2, None, 0),
+    ("10 F.A=1/0TO 9", b"", fault!(How, 7), 0, None, 0),
+    ("10 NEXT A", b"A", Ok((1, 2)), 1, None, 1),
+    ("10 NEXT A", b"AB", Ok((1, 2)), 1, None, 1),
+    ("10 NEXT B;P.1", b"AB", Ok((0, 7)), 0, None, 1),
+    ("10 NEXT A", b"A(", fault!(What, 6), 0, Some((1, 2)), 1),
 ];
+
+// What commands are done with that neither read nor ask.
+fn nothing() -> Given<'static> {
+    Given {
+        lines: &[],
+        answers: &[],
+        rules: plain_rules(1),
+    }
+}
 
 #[test]
 fn loops_and_calls(rt: HostRuntime) -> Result<(), Fail> {
-    for &(line, before, want, place, a, back, left) in LOOPS_AND_CALLS {
-        let (program, mut registers) = begun(rt.alloc(), line, 0)?;
+    for &(line, before, want, a, back, left) in LOOPS_AND_CALLS {
+        let (program, mut registers) = with_line(rt.alloc(), line, 0)?;
         for &byte in before {
             expect_same(&rt, line, open(&mut registers.stack, byte), true);
         }
         let mut screen = TextScreen::new(rt.alloc());
-        let (result, _) = done(&mut registers, &program, &mut screen, &[]);
-        let place_then = numbers(registers.place);
-        let a_then = registers.store.get(letter(b'A'));
+        let mut output = Output::new();
+        let (result, _) = done(
+            &program,
+            &mut registers,
+            nothing(),
+            &mut screen,
+            &mut output,
+        );
+        let stays = result.is_ok() || numbers(registers.place) == Some((0, 0));
+        let done = (doing(result, &registers), registers.store.get(letter(b'A')));
         let call = numbers(registers.stack.close_call());
-        let count = closed(&mut registers.stack);
-        let found = (result, place_then, a_then, call, count);
-        expect_same(&rt, line, found, (want, Some(place), a, back, left));
+        let open = (call, closed(&mut registers.stack));
+        expect_same(
+            &rt,
+            line,
+            (done, open, stays),
+            ((want, a), (back, left), true),
+        );
+    }
+    Ok(())
+}
+
+// How NEXT is done again and again, where A goes up to 1, the place then, and A: the loop has a turn,
+// is over, and then there is none.
+const TURNS: &[(Result<(), Stop>, (usize, usize), i16)] = &[
+    (Ok(()), (1, 2), 1),
+    (Ok(()), (0, 7), 2),
+    (fault!(What, 6), (0, 7), 2),
+];
+
+#[test]
+fn turns(rt: HostRuntime) -> Result<(), Fail> {
+    let (program, mut registers) = with_line(rt.alloc(), "10 NEXT A;P.1", 0)?;
+    let mut screen = TextScreen::new(rt.alloc());
+    let mut output = Output::new();
+    expect_same(&rt, "loop", open(&mut registers.stack, b'A'), true);
+    for &(want, place, a) in TURNS {
+        let (result, _) = done(
+            &program,
+            &mut registers,
+            nothing(),
+            &mut screen,
+            &mut output,
+        );
+        let place_then = numbers(registers.place);
+        let found = (result, place_then, registers.store.get(letter(b'A')));
+        expect_same(&rt, "turn", found, (want, Some(place), a));
     }
     Ok(())
 }
@@ -262,68 +288,22 @@ fn copied(
     Ok((registers, copy))
 }
 
-// A copy holds what was copied. Registers that take it over, once it has another place and A is 8,
-// hold what it holds.
-fn expect_taken_over(
+// Registers that take over an array of size 4 hold it and an A of 0, or what they held.
+fn expect_four(
     rt: &impl Abort,
     alloc: Global,
     registers: &mut Registers,
     copy: &mut Registers,
-) {
-    let found = (numbers(copy.place), copy.store.get(letter(b'A')));
-    expect_same(rt, "copy", found, (Some((0, 0)), 7));
-    copy.store.set(letter(b'A'), 8);
-    copy.place = None;
-    expect_same(rt, "copied", registers.copy_from(alloc, copy).is_ok(), true);
-    let found = (numbers(registers.place), registers.store.get(letter(b'A')));
-    expect_same(rt, "registers", found, (None, 8));
-    let open = (closed(&mut registers.stack), closed(&mut copy.stack));
-    expect_same(rt, "open", open, (1, 1));
-}
-
-// Registers that take over an array of size 4 hold it, or what they held.
-fn expect_four(rt: &impl Abort, alloc: Global, registers: &mut Registers, copy: &Registers) {
+) -> Result<(), AllocError> {
     let size = registers.store.size();
+    copy.store = Store::new(alloc, 4)?;
     let wanted = match registers.copy_from(alloc, copy) {
         Ok(()) => (0, 4),
-        Err(AllocError) => (8, size),
+        Err(AllocError) => (7, size),
     };
     let found = (registers.store.get(letter(b'A')), registers.store.size());
     expect_same(rt, "store", found, wanted);
-}
-
-// Passes whichever of its allocations is refused: the registers hold then what they held.
-#[test]
-fn copied_registers(rt: HostRuntime) {
-    let Some(program) = program_or_refusal(&rt, rt.alloc(), b"10 A=1", b"") else {
-        return;
-    };
-    let Ok((mut registers, mut copy)) = copied(&rt, rt.alloc(), &program) else {
-        return;
-    };
-    expect_taken_over(&rt, rt.alloc(), &mut registers, &mut copy);
-    let Ok(store) = Store::new(rt.alloc(), 4) else {
-        return;
-    };
-    copy.store = store;
-    expect_same(&rt, "size", registers.store.size(), program.size());
-    expect_four(&rt, rt.alloc(), &mut registers, &copy);
-}
-
-// A place, and whether it is byte 2 of statement 1.
-const PLACES: &[(usize, usize, bool)] = &[(1, 2, true), (2, 2, false), (1, 3, false)];
-
-#[test]
-fn same_places(rt: HostRuntime) {
-    let place = Location {
-        statement: 1,
-        at: 2,
-    };
-    for &(statement, at, same) in PLACES {
-        let other = Location { statement, at };
-        expect_same(&rt, "same", place.is_same(other), same);
-        expect_same(&rt, "hash", place.hash() == other.hash(), same);
-    }
+    Ok(())
 }
 
 // What is saved of registers.
@@ -343,51 +323,81 @@ fn expect_likeness(
 ) -> Result<(), AllocError> {
     let one = saved(alloc, one)?;
     let other = saved(alloc, other)?;
-    let found = (one.is_same(&other), other.is_same(&one));
-    expect_same(rt, what, found, (same, same));
-    expect_same(rt, what, one.hash() == other.hash(), same);
+    let hash = one.hash() == other.hash();
+    let found = (one.is_same(&other), other.is_same(&one), hash);
+    expect_same(rt, what, found, (same, same, same));
     Ok(())
 }
 
-// Registers differ from a copy of which one part is changed, and are the same once it is put back, or
-// once what was saved is restored.
-fn expect_differences(
+// What is changed in registers at the first place, where A is 7 and a call is open: their place, A,
+// and whether a loop is opened.
+type Change = (&'static str, Option<(usize, usize)>, i16, bool);
+
+// Each change, and whether the registers hold the same after it.
+const CHANGES: &[(Change, bool)] = &[
+    (("nothing", Some((0, 0)), 7, false), true),
+    (("no place", None, 7, false), false),
+    (("another place", Some((0, 1)), 7, false), false),
+    (("another value", Some((0, 0)), 8, false), false),
+    (("a loop", Some((0, 0)), 7, true), false),
+    (("all of these", None, 8, true), false),
+];
+
+// A copy that takes over what registers hold is the same, after a change it is or is not, and once what
+// was saved of the registers is restored it is the same again.
+fn expect_change(
     rt: &impl Abort,
     alloc: Global,
     registers: &Registers,
     copy: &mut Registers,
+    ((what, place, a, opens), same): (Change, bool),
 ) -> Result<(), AllocError> {
-    expect_likeness(rt, alloc, registers, copy, ("copy", true))?;
-    copy.place = None;
-    expect_likeness(rt, alloc, registers, copy, ("no place", false))?;
-    copy.place = Some(Location {
-        statement: 0,
-        at: 1,
-    });
-    expect_likeness(rt, alloc, registers, copy, ("place", false))?;
-    copy.place = registers.place;
-    copy.store.set(letter(b'A'), 8);
-    expect_likeness(rt, alloc, registers, copy, ("store", false))?;
-    copy.store.set(letter(b'A'), 7);
-    expect_same(rt, "loop", open(&mut copy.stack, b'A'), true);
-    expect_likeness(rt, alloc, registers, copy, ("stack", false))?;
-    copy.stack.close_newest();
-    expect_likeness(rt, alloc, registers, copy, ("put back", true))?;
-    copy.place = None;
-    copy.store.set(letter(b'A'), 8);
-    copy.stack.close_newest();
+    copy.copy_from(alloc, registers)?;
+    expect_likeness(rt, alloc, copy, registers, (what, true))?;
+    copy.place = match place {
+        Some((statement, at)) => Some(Location { statement, at }),
+        None => None,
+    };
+    copy.store.set(letter(b'A'), a);
+    let opened = opens && open(&mut copy.stack, b'A');
+    let found = (opened, numbers(copy.place), copy.store.get(letter(b'A')));
+    expect_same(rt, what, found, (opens, place, a));
+    expect_likeness(rt, alloc, copy, registers, (what, same))?;
     copy.restore(alloc, &saved(alloc, registers)?)?;
-    expect_likeness(rt, alloc, registers, copy, ("restored", true))
+    expect_likeness(rt, alloc, copy, registers, (what, true))
 }
 
-// Passes whichever of its allocations is refused.
+// Passes whichever of its allocations is refused: registers that take over others hold then what they
+// held.
 #[test]
-fn same_registers(rt: HostRuntime) {
+fn copied_registers(rt: HostRuntime) {
     let Some(program) = program_or_refusal(&rt, rt.alloc(), b"10 A=1", b"") else {
         return;
     };
-    if let Ok((registers, mut copy)) = copied(&rt, rt.alloc(), &program) {
-        let _ = expect_differences(&rt, rt.alloc(), &registers, &mut copy);
+    let Ok((mut registers, mut copy)) = copied(&rt, rt.alloc(), &program) else {
+        return;
+    };
+    let _ = expect_likeness(&rt, rt.alloc(), &registers, &copy, ("copy", true));
+    for &change in CHANGES {
+        let _ = expect_change(&rt, rt.alloc(), &registers, &mut copy, change);
+    }
+    expect_same(&rt, "size", registers.store.size(), program.size());
+    let _ = expect_four(&rt, rt.alloc(), &mut registers, &mut copy);
+}
+
+// A place, and whether it is byte 2 of statement 1.
+const PLACES: &[(usize, usize, bool)] = &[(1, 2, true), (2, 2, false), (1, 3, false)];
+
+#[test]
+fn same_places(rt: HostRuntime) {
+    let place = Location {
+        statement: 1,
+        at: 2,
+    };
+    for &(statement, at, same) in PLACES {
+        let other = Location { statement, at };
+        expect_same(&rt, "same", place.is_same(other), same);
+        expect_same(&rt, "hash", place.hash() == other.hash(), same);
     }
 }
 
@@ -407,17 +417,9 @@ const BEGINNINGS: &[(i16, Option<(usize, usize)>)] = &[
     (-10, None),
 ];
 
-// Where a program without a line begins.
-fn first_of_none(alloc: Global) -> Option<(usize, usize)> {
-    numbers(first_place(&Program::new(alloc, MEMORY)))
-}
-
 #[test]
 fn places(rt: HostRuntime) -> Result<(), Fail> {
     let program = program(rt.alloc(), b"20 B=1", b"10 A=1")?;
-    let first = numbers(first_place(&program));
-    let of_none = first_of_none(rt.alloc());
-    expect_same(&rt, "first", (first, of_none), (Some((0, 0)), None));
     for &(statement, after, number, text) in STATEMENTS {
         let place = numbers(place_after(&program, statement));
         let (found, line) = line_at(&program, statement);
@@ -437,20 +439,26 @@ fn places(rt: HostRuntime) -> Result<(), Fail> {
 // Where the first command of a program begins: in which statement, and after how many bytes.
 fn first_command(program: &Program) -> Option<(usize, usize)> {
     let place = first_place(program);
-    next_command(program, place).map(|(statement, cursor)| (statement, cursor.place()))
+    match next_command(program, place) {
+        Some((statement, cursor)) => Some((statement, cursor.place())),
+        None => None,
+    }
 }
 
-const FIRST_COMMANDS: &[(&str, Option<(usize, usize)>)] = &[
-    ("", None),
-    ("10 P.1", Some((0, 0))),
-    ("10 ;P.1", Some((0, 0))),
+// Two lines, the first place of their program, and where its first command begins.
+const FIRST_COMMANDS: &[(&str, &[u8], Option<(usize, usize)>)] = &[
+    ("", b"", None),
+    ("10 P.1", b"", Some((0, 0))),
+    ("10 ;P.1", b"", Some((0, 0))),
+    ("20 B=1", b"10 A=1", Some((0, 0))),
 ];
 
 #[test]
 fn first_commands(rt: HostRuntime) -> Result<(), Fail> {
-    for &(line, want) in FIRST_COMMANDS {
-        let program = program(rt.alloc(), line.as_bytes(), b"")?;
-        expect_same(&rt, line, first_command(&program), want);
+    for &(line, other, want) in FIRST_COMMANDS {
+        let program = program(rt.alloc(), line.as_bytes(), other)?;
+        let found = (numbers(first_place(&program)), first_command(&program));
+        expect_same(&rt, line, found, (want, want));
     }
     Ok(())
 }
@@ -483,29 +491,4 @@ fn freshness(rt: HostRuntime) {
         let found = (is_shown, screen.bytes(), fresh);
         expect_same(&rt, text, found, (true, text.as_bytes(), after));
     }
-}
-
-// How NEXT is done again and again, where A goes up to 1, the place then, and A: the loop has a turn,
-// is over, and then there is none.
-const TURNS: &[(Result<(), Stop>, (usize, usize), i16)] = &[
-    (Ok(()), (1, 2), 1),
-    (Ok(()), (0, 7), 2),
-    (fault!(What, 6), (0, 7), 2),
-];
-
-#[test]
-fn turns(rt: HostRuntime) -> Result<(), Fail> {
-    let (program, mut registers) = begun(rt.alloc(), "10 NEXT A;P.1", 0)?;
-    let mut screen = TextScreen::new(rt.alloc());
-    expect_same(&rt, "loop", open(&mut registers.stack, b'A'), true);
-    for &(want, place, a) in TURNS {
-        let (result, _) = done(&mut registers, &program, &mut screen, &[]);
-        let found = (
-            result,
-            numbers(registers.place),
-            registers.store.get(letter(b'A')),
-        );
-        expect_same(&rt, "turn", found, (want, Some(place), a));
-    }
-    Ok(())
 }

@@ -18,9 +18,11 @@ mod input;
 #[cfg(test)]
 mod lines;
 #[cfg(test)]
-mod players;
+mod loops;
 #[cfg(test)]
-mod print;
+mod machines;
+#[cfg(test)]
+mod players;
 #[cfg(test)]
 mod program_codes;
 #[cfg(test)]
@@ -38,4 +40,4 @@ mod stack;
 #[cfg(test)]
 mod translations;
 #[cfg(test)]
-mod whole_input;
+mod writes;

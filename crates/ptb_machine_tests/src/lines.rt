@@ -1,9 +1,7 @@
 // This file tests how lines are cleaned, and how a list of them is taken.
 
-use crate::shared::expect_same;
+use crate::shared::{expect_same, lines_of};
 use ptb_devices::{Line, LineSource, Lines};
-use ptb_text::DeviceFault;
-use std::alloc::{AllocError, Global};
 use std::process::Abort;
 use std::test::Fail;
 
@@ -16,22 +14,18 @@ const CLEANED: &[(&[u8], &[u8])] = &[
     (b"1\r2\r", b"12"),
     (b"\x00x\x1fy\x7fz\x80\xff~", b"xyz~"),
     (b"a\nb", b"ab"),
+    (&[b'A'; 255], &[b'A'; 255]),
+    (&[b'A'; 256], &[b'A'; 255]),
+    (&[b'\t'; 300], &[b' '; 255]),
 ];
-
-fn expect_clean(rt: &impl Abort, alloc: Global, bytes: &[u8], want: &[u8]) -> Result<(), Fail> {
-    let line = Line::clean(alloc, bytes)?;
-    expect_same(rt, "line", line.bytes(), want);
-    Ok(())
-}
 
 #[test]
 fn cleaned_lines(rt: HostRuntime) -> Result<(), Fail> {
     for &(bytes, want) in CLEANED {
-        expect_clean(&rt, rt.alloc(), bytes, want)?;
+        let line = Line::clean(rt.alloc(), bytes)?;
+        expect_same(&rt, "line", line.bytes(), want);
     }
-    expect_clean(&rt, rt.alloc(), &[b'A'; 255], &[b'A'; 255])?;
-    expect_clean(&rt, rt.alloc(), &[b'A'; 256], &[b'A'; 255])?;
-    expect_clean(&rt, rt.alloc(), &[b'\t'; 300], &[b' '; 255])
+    Ok(())
 }
 
 // A byte that is dropped takes no room.
@@ -48,60 +42,31 @@ fn room_for_printable_bytes(rt: HostRuntime) -> Result<(), Fail> {
     Ok(())
 }
 
-// How many lines are left of a source.
-fn rest<L: LineSource>(rt: &impl Abort, source: &mut L) -> Result<usize, DeviceFault> {
-    let mut count: usize = 0;
-    while source.next()?.is_some() {
-        count = count.saturating_add(1);
-    }
-    assert!(rt; source.next()?.is_none());
-    Ok(count)
-}
+// How many of three lines are taken, and the next one, if there is one.
+const NEXT: &[(usize, Option<&[u8]>)] = &[
+    (0, Some(b"one")),
+    (1, Some(b"")),
+    (2, Some(b"three")),
+    (3, None),
+    (3, None),
+];
 
-// The lines `one`, an empty one and `three`.
-fn three_lines(alloc: Global) -> Result<Vec<Line>, AllocError> {
-    let mut all = Vec::new(alloc);
-    for bytes in [&b"one"[..], b"", b"three"] {
-        all.push(Line::clean(alloc, bytes)?)?;
-    }
-    Ok(all)
-}
-
-// The next line that a source gives.
-fn expect_next(rt: &impl Abort, lines: &mut Lines<'_>, want: Option<&[u8]>) {
-    expect_same(rt, "next line", lines.next(), Ok(want));
-}
-
-// One line is taken, and then what is left.
-fn expect_all_taken(rt: &impl Abort, all: &[Line]) -> Result<(), DeviceFault> {
-    let mut lines = Lines::new(all);
-    let at_first = lines.taken();
-    expect_next(rt, &mut lines, Some(b"one"));
-    let of_one = lines.taken();
-    let left = rest(rt, &mut lines)?;
-    let found = (at_first, of_one, left, lines.taken());
-    expect_same(rt, "taken and left", found, (0, 1, 2, 3));
-    Ok(())
-}
-
-// All lines are at hand.
-fn expect_all_ready(rt: &impl Abort, all: &[Line]) {
-    let mut lines = Lines::new(all);
-    for want in [&b"one"[..], b"", b"three"] {
-        expect_same(rt, "ready line", lines.take_ready(), Some(want));
-    }
-    expect_same(rt, "ready line", lines.take_ready(), None);
-}
-
+// The lines are taken one after the other, also those at hand, which are all, and one alone after a
+// jump to it.
 #[test]
 fn lines_in_memory(rt: HostRuntime) -> Result<(), Fail> {
-    let all = three_lines(rt.alloc())?;
-    expect_all_taken(&rt, &all)?;
-    expect_all_ready(&rt, &all);
+    let all = lines_of(rt.alloc(), &[b"one", b"", b"three"])?;
     let mut lines = Lines::new(&all);
-    assert!(rt; all.len() == 3);
-    lines.go(2);
-    expect_next(&rt, &mut lines, Some(b"three"));
-    expect_next(&rt, &mut lines, None);
+    let mut ready = Lines::new(&all);
+    for &(taken, want) in NEXT {
+        assert!(rt; taken <= all.len());
+        let mut there = Lines::new(&all);
+        there.go(taken);
+        let counts = (lines.taken(), ready.taken(), there.taken());
+        expect_same(&rt, "taken", counts, (taken, taken, taken));
+        expect_same(&rt, "next line", lines.next(), Ok(want));
+        expect_same(&rt, "ready line", ready.take_ready(), want);
+        expect_same(&rt, "line there", there.next(), Ok(want));
+    }
     Ok(())
 }

@@ -1,10 +1,9 @@
 // This file tests the code of a whole program: which command it finds at a place, how many commands
 // are done by it in a row, and a program that has more commands than there is room for their code.
 
-use crate::runs::expect_end;
-use crate::shared::{MEMORY, expect_same, letter};
-use ptb_code::Location;
-use ptb_command::Registers;
+use crate::loops::expect_end;
+use crate::shared::{MEMORY, expect_same, letter, numbers, push_lines};
+use ptb_command::{Location, Registers};
 use ptb_machine::{Ending, Operation, ProgramCode};
 use ptb_text::{Device, LoadFault, Program, load};
 use std::alloc::{AllocError, Global};
@@ -69,16 +68,13 @@ fn next_code_of_a_program(rt: HostRuntime) -> Result<(), Fail> {
         Err(AllocError) => return Ok(()),
     };
     for &(statement, at, guess, wanted) in PLACES {
-        let found = code
-            .next(&program, Location { statement, at }, guess)
-            .map(|next| {
-                (
-                    next.index,
-                    next.place.statement,
-                    next.place.at,
-                    name(next.operations.first()),
-                )
-            });
+        let found = match code.next(&program, Location { statement, at }, guess) {
+            Some(next) => {
+                let name = name(next.operations.first());
+                Some((next.index, next.place.statement, next.place.at, name))
+            }
+            None => None,
+        };
         expect_same(&rt, "next", found, wanted);
     }
     Ok(())
@@ -127,40 +123,24 @@ const RUNS: &[Row] = &[
 ];
 
 // The commands of a row are done so, whichever entry is the guess.
-fn expect_row(rt: &impl Abort, alloc: Global, row: &Row, guess: usize) -> Result<(), Fail> {
+fn expect_row(rt: &impl Abort, alloc: Global, row: &Row) -> Result<(), Fail> {
     let &(lines, most, wanted, place, a) = row;
     let program = program_of(alloc, lines)?;
     let code = ProgramCode::new(alloc, &program)?;
-    let mut registers = Registers::new(alloc, &program)?;
-    let done = code.advance(&program, &mut registers, most, guess).done;
-    let at = registers.place.map(|place| (place.statement, place.at));
-    let found = (done, at, registers.store.get(letter(b'A')));
-    expect_same(rt, "run", found, (wanted, Some(place), a));
+    for guess in [0, 1, 99] {
+        let mut registers = Registers::new(alloc, &program)?;
+        let done = code.advance(&program, &mut registers, most, guess).done;
+        let a_then = registers.store.get(letter(b'A'));
+        let found = (guess, done, numbers(registers.place), a_then);
+        expect_same(rt, "run", found, (guess, wanted, Some(place), a));
+    }
     Ok(())
 }
 
 #[test]
 fn commands_in_a_row(rt: HostRuntime) -> Result<(), Fail> {
     for row in RUNS {
-        expect_row(&rt, rt.alloc(), row, 0)?;
-        expect_row(&rt, rt.alloc(), row, 1)?;
-        expect_row(&rt, rt.alloc(), row, 99)?;
-    }
-    Ok(())
-}
-
-// 110 statements that begin with IF A, numbered from 1000 on. Each has 64 commands.
-fn long_statements(text: &mut Vec<u8>) -> Result<(), Fail> {
-    for n in 0..110_u8 {
-        text.push(b'1')?;
-        text.push((n / 100).wrapping_add(b'0'))?;
-        text.push((n / 10 % 10).wrapping_add(b'0'))?;
-        text.push((n % 10).wrapping_add(b'0'))?;
-        text.extend_from_slice(b" IFA")?;
-        for _ in 0..63 {
-            text.extend_from_slice(b"P.A;")?;
-        }
-        text.push(b'\n')?;
+        expect_row(&rt, rt.alloc(), row)?;
     }
     Ok(())
 }
@@ -168,9 +148,15 @@ fn long_statements(text: &mut Vec<u8>) -> Result<(), Fail> {
 // A PRINT has an entry of 24 bytes, three operations of 8 bytes and a step of 6, thus 54. So the code
 // of all commands would take more than 110 * 63 * 54 = 374,220 bytes, and that of the first 80
 // statements less than 80 * 64 * 54 = 276,480.
+// 110 of the statements begin with IF A and have 64 commands each.
 fn program_with_much_code(alloc: Global) -> Result<Program, Fail> {
+    let mut line = Vec::from_slice(alloc, b" IFA")?;
+    for _ in 0..63 {
+        line.extend_from_slice(b"P.A;")?;
+    }
+    line.push(b'\n')?;
     let mut text = Vec::from_slice(alloc, b"10 B=B+1\n")?;
-    long_statements(&mut text)?;
+    push_lines(&mut text, 110, line.as_slice())?;
     text.extend_from_slice(b"2000 C=C+1;GOS.2040\n2010 F.I=1TO4;D=D+I;N.I\n")?;
     text.extend_from_slice(b"2020 IF C<3 GOTO 10\n2030 P.B,C,D,E;STOP\n2040 E=E+C;R.\n")?;
     let mut bytes = text.as_slice();
@@ -197,6 +183,7 @@ fn commands_without_code(rt: HostRuntime) -> Result<(), Fail> {
     expect_same(&rt, "code", (first, last), ((true, true), (false, false)));
     drop(code);
     let shown = b"     3     3    30     6\n".as_slice();
-    expect_end(&rt, rt.alloc(), &program, 379, (Ending::Stop, shown));
+    let want = (Ending::Stop, shown);
+    expect_end(&rt, rt.alloc(), ("much code", &program), 379, want);
     Ok(())
 }

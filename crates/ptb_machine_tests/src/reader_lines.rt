@@ -1,214 +1,263 @@
-// This file tests how lines are read when they are asked for, to the end or a fault.
+// This file tests how the lines of an input are read, one by one when they are asked for, and all at
+// once: in pieces, to the end, to a fault, and without an end.
 
 use crate::shared::{Long, expect_same, scripted};
-use ptb_devices::{LineSource, ReaderLines};
+use ptb_devices::{LineSource, Lines, ReaderLines, read_lines};
 use ptb_text::{Device, DeviceFault, Read};
+use std::alloc::Global;
 use std::process::Abort;
+use std::test::Fail;
+
+// These lines come from a source. The row says where they are expected.
+fn expect_lines<L: LineSource>(rt: &impl Abort, row: usize, source: &mut L, lines: &[&[u8]]) {
+    for &line in lines {
+        expect_same(rt, "line", (row, source.next()), (row, Ok(Some(line))));
+    }
+}
+
+// No other line comes from a source: it ends so, again and again.
+fn expect_end<L: LineSource>(
+    rt: &impl Abort,
+    row: usize,
+    source: &mut L,
+    end: Result<Option<&[u8]>, DeviceFault>,
+) {
+    for _ in 0..2 {
+        expect_same(rt, "end", (row, source.next()), (row, end));
+    }
+}
+
+// These lines come from a reader, and then this fault, or the end.
+fn expect_read<R: Read>(
+    rt: &impl Abort,
+    row: usize,
+    reader: &mut R,
+    lines: &[&[u8]],
+    fault: Option<DeviceFault>,
+) {
+    let end = match fault {
+        Some(fault) => Err(fault),
+        None => Ok(None),
+    };
+    let mut source = ReaderLines::new(reader);
+    expect_lines(rt, row, &mut source, lines);
+    expect_same(rt, "no fault", source.fault(), None);
+    expect_end(rt, row, &mut source, end);
+    expect_same(rt, "fault", source.fault(), fault);
+}
+
+// These lines come from an input in such pieces, one by one and all at once.
+fn expect_input(
+    rt: &impl Abort,
+    alloc: Global,
+    bytes: &[u8],
+    piece: usize,
+    lines: &[&[u8]],
+) -> Result<(), Fail> {
+    let mut reader = Device::new(scripted(bytes, piece, false));
+    expect_read(rt, piece, &mut reader, lines, None);
+    let all = read_lines(alloc, &mut Device::new(scripted(bytes, piece, false)))?;
+    let mut source = Lines::new(&all);
+    expect_lines(rt, piece, &mut source, lines);
+    expect_end(rt, piece, &mut source, Ok(None));
+    Ok(())
+}
 
 // Each input, and its lines.
 const INPUTS: &[(&[u8], &[&[u8]])] = &[
     (b"", &[]),
     (b"\n", &[b""]),
     (b"\r", &[b""]),
+    (b"\x01", &[b""]),
     (b"5", &[b"5"]),
     (b"5\n", &[b"5"]),
     (b"5\n\n", &[b"5", b""]),
+    (b"5\n\r", &[b"5", b""]),
     (b"5\n\x7f", &[b"5", b""]),
     (b"1\r2\r\n\t3\r", &[b"12", b" 3"]),
     (b"\n)\n5\n7 ", &[b"", b")", b"5", b"7 "]),
 ];
 
-// These lines come from an input in such pieces, and no other.
-fn expect_lines(rt: &impl Abort, bytes: &[u8], piece: usize, lines: &[&[u8]]) {
-    let mut reader = Device::new(scripted(bytes, piece, false));
-    let mut source = ReaderLines::new(&mut reader);
-    for &line in lines {
-        expect_same(rt, "line", (piece, source.next()), (piece, Ok(Some(line))));
-    }
-    for _ in 0..2 {
-        expect_same(rt, "end", source.next(), Ok(None));
-    }
-    expect_same(rt, "fault", source.fault(), None);
-}
-
 #[test]
-fn lines_of_an_input(rt: HostRuntime) {
+fn lines_of_an_input(rt: HostRuntime) -> Result<(), Fail> {
     for &(bytes, lines) in INPUTS {
         for piece in [1, 2, 3, 4096] {
-            expect_lines(&rt, bytes, piece, lines);
+            expect_input(&rt, rt.alloc(), bytes, piece, lines)?;
         }
     }
+    Ok(())
 }
 
-// Each input, how many of its lines are asked for before, and the lines that are at hand then: those
-// that came whole with the buffer, up to one that the cleaning changes.
-const READY: &[(&[u8], usize, &[&[u8]])] = &[
-    (b"5\n7\n", 0, &[]),
-    (b"5\n7\n", 1, &[b"7"]),
-    (b"5\n7\n\n 9 \n1", 1, &[b"7", b"", b" 9 "]),
-    (b"5\n7\t\n9\n", 1, &[]),
-    (b"5\n7\t\n9\n", 2, &[b"9"]),
-    (b"5\n7\r\n9\n", 1, &[]),
-    (b"5\n\x7f\n9\n", 1, &[]),
-    (b"5\n7", 2, &[]),
-    (b"5\n7", 3, &[]),
+// A line of 255 bytes, to which longer ones are cut.
+const LONG: &[u8] = &[b'A'; 255];
+
+// Where an input of 5000 bytes has newlines, and its lines: lines longer than the buffer, lines that
+// end at its border or begin after it, and others after them.
+const LONG_INPUTS: &[(&[usize], &[&[u8]])] = &[
+    (&[300, 4990], &[LONG, LONG, b"AAAAAAAAA"]),
+    (
+        &[10, 4095, 4096, 4100],
+        &[b"AAAAAAAAAA", LONG, b"", b"AAA", LONG],
+    ),
 ];
 
 #[test]
-fn lines_at_hand(rt: HostRuntime) {
-    for &(bytes, asked, lines) in READY {
-        let mut reader = Device::new(scripted(bytes, 4096, false));
-        let mut source = ReaderLines::new(&mut reader);
-        for _ in 0..asked {
-            expect_same(&rt, "is read", source.next().is_ok(), true);
+fn long_lines(rt: HostRuntime) -> Result<(), Fail> {
+    for &(newlines, lines) in LONG_INPUTS {
+        let mut bytes = [b'A'; 5000];
+        for &at in newlines {
+            bytes[at.min(4999)] = b'\n';
         }
-        for &line in lines {
-            expect_same(
-                &rt,
-                "line",
-                (bytes, source.take_ready()),
-                (bytes, Some(line)),
-            );
-        }
-        for _ in 0..2 {
-            expect_same(&rt, "none", (bytes, source.take_ready()), (bytes, None));
+        for piece in [1, 299, 4095, 4096, 5000] {
+            expect_input(&rt, rt.alloc(), &bytes, piece, lines)?;
         }
     }
+    Ok(())
 }
 
-// How many bytes a line has, and whether it is at hand.
-const LONG_LINES: &[(usize, bool)] = &[(0, true), (255, true), (256, false)];
-
-// A line at hand has at most 255 bytes. One that is longer is still given, cut.
-#[test]
-fn long_lines_at_hand(rt: HostRuntime) {
-    for &(length, is_ready) in LONG_LINES {
-        let mut bytes = [b'A'; 300];
-        bytes[0] = b'\n';
-        bytes[length + 1] = b'\n';
-        let mut reader = Device::new(scripted(&bytes, 4096, false));
-        let mut source = ReaderLines::new(&mut reader);
-        expect_same(&rt, "first", next_length(&mut source), Ok(Some(0)));
-        let found = source.take_ready().map(|line| line.len());
-        expect_same(
-            &rt,
-            "ready",
-            (length, found),
-            (length, is_ready.then_some(length)),
-        );
-        if !is_ready {
-            expect_same(&rt, "cut", next_length(&mut source), Ok(Some(255)));
-        }
-    }
-}
-
-// How long the next line is, if there is one.
-fn next_length<R: Read>(source: &mut ReaderLines<'_, R>) -> Result<Option<usize>, DeviceFault> {
-    Ok(source.next()?.map(|line| line.len()))
-}
-
-// Lines that end at the border of the buffer, and begin after it.
-#[test]
-fn lines_across_the_buffer(rt: HostRuntime) {
-    let mut bytes = [b'A'; 5000];
-    for at in [10, 4095, 4096, 4100] {
-        bytes[at] = b'\n';
-    }
-    for piece in [1, 4095, 4096, 5000] {
-        let mut reader = Device::new(scripted(&bytes, piece, false));
-        let mut source = ReaderLines::new(&mut reader);
-        for length in [10, 255, 0, 3, 255] {
-            expect_same(&rt, "length", next_length(&mut source), Ok(Some(length)));
-        }
-        expect_same(&rt, "end", next_length(&mut source), Ok(None));
-    }
-}
-
-// How often the reader is read for so many lines.
-fn calls_for(rt: &impl Abort, asked: usize) -> usize {
-    let mut script = scripted(b"5\n7\n9", 4096, false);
-    let mut reader = Device::new(&mut script);
-    let mut source = ReaderLines::new(&mut reader);
-    for _ in 0..asked {
-        expect_same(rt, "is read", source.next().is_ok(), true);
-    }
-    drop(source);
-    drop(reader);
-    script.calls
-}
-
-// How many lines are asked for, and how often the reader is read then.
-const CALLS: &[(usize, usize)] = &[(0, 0), (1, 1), (2, 1), (3, 2), (4, 2), (5, 2)];
-
-// The reader is read only where no line is whole, and never after its end.
-#[test]
-fn reads_when_asked(rt: HostRuntime) {
-    for &(asked, calls) in CALLS {
-        expect_same(&rt, "calls", (asked, calls_for(&rt, asked)), (asked, calls));
-    }
-}
-
-// So many lines come, and then a fault, or the end, twice.
-fn expect_end<R: Read>(rt: &impl Abort, reader: &mut R, lines: usize, fault: Option<DeviceFault>) {
-    let mut source = ReaderLines::new(reader);
-    for _ in 0..lines {
-        let is_line = source.next().is_ok_and(|line| line.is_some());
-        expect_same(rt, "line", (is_line, source.fault()), (true, None));
-    }
-    let wanted = match fault {
-        Some(fault) => Err(fault),
-        None => Ok(false),
-    };
-    for _ in 0..2 {
-        let found = source.next().map(|line| line.is_some());
-        expect_same(rt, "end", (found, source.fault()), (wanted, fault));
-    }
-}
-
-// Inputs before a fault: how many of their lines come, and how often the reader is read.
-const FAULTS: &[(&[u8], usize, usize)] = &[
-    (b"", 0, 1),
-    (b"5", 0, 2),
-    (b"5\n", 1, 2),
-    (b"5\n7", 1, 2),
-    (b"5\n7\n", 2, 2),
+// Inputs before a fault: the lines that come before it, and how often the reader is read.
+const FAULTS: &[(&[u8], &[&[u8]], usize)] = &[
+    (b"", &[], 1),
+    (b"5", &[], 2),
+    (b"5\n", &[b"5"], 2),
+    (b"5\n7", &[b"5"], 2),
+    (b"5\n7\n", &[b"5", b"7"], 2),
 ];
 
-// A fault is answered after the lines that came complete, and again, without another read.
+const FAILED: Option<DeviceFault> = Some(DeviceFault::Read);
+
+// A fault is answered after the lines that came complete, and again, without another read. All lines
+// at once are refused.
 #[test]
-fn faults_again(rt: HostRuntime) {
+fn faults(rt: HostRuntime) {
     for &(bytes, lines, calls) in FAULTS {
         let mut script = scripted(bytes, 4096, true);
-        expect_end(
+        expect_read(
             &rt,
+            bytes.len(),
             &mut Device::new(&mut script),
             lines,
-            Some(DeviceFault::Read),
+            FAILED,
         );
-        expect_same(&rt, "calls", script.calls, calls);
+        let mut reader = Device::new(scripted(bytes, 1, true));
+        let fault = read_lines(rt.alloc(), &mut reader).err();
+        expect_same(&rt, "calls", (script.calls, fault), (calls, FAILED));
     }
 }
 
-// How long an input is, where its newline is, how many lines of it come, the fault after them,
-// and how many bytes are taken.
-const LENGTHS: &[(usize, usize, usize, Option<DeviceFault>, usize)] = &[
-    (16_777_216, 2, 2, None, 16_777_216),
-    (usize::MAX, 16_777_215, 1, TOO_LONG, 16_777_217),
-    (usize::MAX, 16_777_216, 0, TOO_LONG, 16_777_217),
-];
+// Gives so many bytes, with a newline at one place.
+fn long(left: usize, newline_at: usize) -> Long {
+    Long {
+        left,
+        newline_at,
+        given: 0,
+    }
+}
 
 const TOO_LONG: Option<DeviceFault> = Some(DeviceFault::TooLong);
+
+// How long an input is, where its newline is, its lines that come one by one, the fault after them,
+// and how many bytes are taken.
+const LENGTHS: &[(usize, usize, &[&[u8]], Option<DeviceFault>, usize)] = &[
+    (16_777_216, 2, &[b"AA", LONG], None, 16_777_216),
+    (usize::MAX, 16_777_215, &[LONG], TOO_LONG, 16_777_217),
+    (usize::MAX, 16_777_216, &[], TOO_LONG, 16_777_217),
+];
 
 // The lines that are whole within the limit come first, the last of them with its newline.
 #[test]
 fn length_of_an_input(rt: HostRuntime) {
     for &(left, newline_at, lines, fault, taken) in LENGTHS {
-        let mut long = Long {
-            left,
-            newline_at,
-            given: 0,
-        };
-        expect_end(&rt, &mut Device::new(&mut long), lines, fault);
-        expect_same(&rt, "taken", long.given, taken);
+        let mut input = long(left, newline_at);
+        expect_read(&rt, taken, &mut Device::new(&mut input), lines, fault);
+        expect_same(&rt, "taken", input.given, taken);
+    }
+}
+
+// How long an input without a newline is, the fault where all its lines are read at once, and how many
+// bytes are taken.
+const WHOLE_LENGTHS: &[(usize, Option<DeviceFault>, usize)] = &[
+    (16_777_216, None, 16_777_216),
+    (16_777_217, TOO_LONG, 16_777_217),
+    (usize::MAX, TOO_LONG, 16_777_217),
+];
+
+#[test]
+fn length_of_a_whole_input(rt: HostRuntime) {
+    for &(left, want, taken) in WHOLE_LENGTHS {
+        let mut input = long(left, usize::MAX);
+        let fault = read_lines(rt.alloc(), &mut Device::new(&mut input)).err();
+        expect_same(&rt, "input", (fault, input.given), (want, taken));
+    }
+}
+
+// After so many lines that are asked for these are at hand, and then none.
+fn expect_ready<L: LineSource>(rt: &impl Abort, asked: usize, source: &mut L, lines: &[&[u8]]) {
+    for _ in 0..asked {
+        expect_same(rt, "is read", source.next().is_ok(), true);
+    }
+    for &line in lines {
+        let found = (asked, source.take_ready());
+        expect_same(rt, "ready", found, (asked, Some(line)));
+    }
+    for _ in 0..2 {
+        expect_same(rt, "none", (asked, source.take_ready()), (asked, None));
+    }
+}
+
+// Each input, how many of its lines are asked for before, the lines that are at hand then, and how
+// often the reader is read. Those are at hand that came whole with the buffer, up to one that the
+// cleaning changes. The reader is read only where no line is whole, and never after its end.
+const READY: &[(&[u8], usize, &[&[u8]], usize)] = &[
+    (b"5\n7\n", 0, &[], 0),
+    (b"5\n7\n", 1, &[b"7"], 1),
+    (b"5\n7\n\n 9 \n1", 1, &[b"7", b"", b" 9 "], 1),
+    (b"5\n7\t\n9\n", 1, &[], 1),
+    (b"5\n7\t\n9\n", 2, &[b"9"], 1),
+    (b"5\n7\r\n9\n", 1, &[], 1),
+    (b"5\n\x7f\n9\n", 1, &[], 1),
+    (b"5\n7", 2, &[], 2),
+    (b"5\n7", 3, &[], 2),
+    (b"5\n7\n9", 0, &[], 0),
+    (b"5\n7\n9", 1, &[b"7"], 1),
+    (b"5\n7\n9", 2, &[], 1),
+    (b"5\n7\n9", 3, &[], 2),
+    (b"5\n7\n9", 4, &[], 2),
+    (b"5\n7\n9", 5, &[], 2),
+];
+
+#[test]
+fn lines_at_hand(rt: HostRuntime) {
+    for &(bytes, asked, lines, calls) in READY {
+        let mut script = scripted(bytes, 4096, false);
+        let mut reader = Device::new(&mut script);
+        expect_ready(&rt, asked, &mut ReaderLines::new(&mut reader), lines);
+        drop(reader);
+        expect_same(&rt, "calls", (bytes, script.calls), (bytes, calls));
+    }
+}
+
+// How many bytes a line has, whether it is at hand, and the next line after that.
+const LONG_LINES: &[(usize, &[&[u8]], &[&[u8]])] = &[
+    (0, &[b""], &[LONG]),
+    (
+        255,
+        &[LONG],
+        &[b"AAAAAAAAAAAAAAAAAAAAAAAAAAAAAAAAAAAAAAAAAAA"],
+    ),
+    (256, &[], &[LONG]),
+];
+
+// A line at hand has at most 255 bytes. One that is longer is still given, cut.
+#[test]
+fn long_lines_at_hand(rt: HostRuntime) {
+    for &(length, ready, next) in LONG_LINES {
+        let mut bytes = [b'A'; 300];
+        bytes[0] = b'\n';
+        bytes[length.min(298) + 1] = b'\n';
+        let mut reader = Device::new(scripted(&bytes, 4096, false));
+        let mut source = ReaderLines::new(&mut reader);
+        expect_ready(&rt, 1, &mut source, ready);
+        expect_lines(&rt, length, &mut source, next);
     }
 }

@@ -4,10 +4,9 @@ ghost use Rattle.std.specs.Prelude.{◌≡◌, None, Ok, IfOk, IsTrue};
 ghost use Rattle.ptb_text.specs.Statements.{program};
 ghost use Rattle.ptb_text.specs.Words.{is_letter};
 
-use ptb_code::{Stack, first_place};
-use ptb_command::{CommandIo, Context, Output, Registers, Stop};
-use ptb_devices::{LineSource, Screen};
-use ptb_expr::{Chooser, Store};
+use ptb_command::{CommandIo, Context, Location, Output, Registers, Stack, Stop, first_place};
+use ptb_devices::{Line, Lines, Screen, WriterScreen};
+use ptb_expr::{Listed, Pause, Store};
 use ptb_machine::{CommandCode, Rules, line_at, translate};
 use ptb_text::{ByteSink, ByteSource, Cursor, Device, Letter, Program, load};
 use std::alloc::{AllocError, Global};
@@ -129,40 +128,58 @@ macro_rules! fault {
 
 pub(crate) use fault;
 
-// A command that was stopped by a write that failed.
-pub(crate) const UNWRITTEN: Result<usize, Stop> = Err(Stop::Unwritten);
-
 // The memory of the programs.
 pub(crate) const MEMORY: u16 = 4096;
 
-// The program of one line, and registers at its beginning with an array of 27 elements.
-pub(crate) fn with_line(alloc: Global, line: &str) -> Result<(Program, Registers), Fail> {
+// The lines of an input.
+pub(crate) fn lines_of(alloc: Global, input: &[&[u8]]) -> Result<Vec<Line>, AllocError> {
+    let mut lines = Vec::new(alloc);
+    for line in input {
+        lines.push(Line::clean(alloc, line)?)?;
+    }
+    Ok(lines)
+}
+
+// The two numbers of a place.
+pub(crate) fn numbers(place: Option<Location>) -> Option<(usize, usize)> {
+    match place {
+        Some(place) => Some((place.statement, place.at)),
+        None => None,
+    }
+}
+
+// The program of a line and a STOP, and registers at its beginning with an array of 27 elements,
+// where A holds this.
+pub(crate) fn with_line(alloc: Global, line: &str, a: i16) -> Result<(Program, Registers), Fail> {
     let mut program = Program::new(alloc, MEMORY);
     program.enter(line.as_bytes())?;
+    program.enter(b"20 STOP")?;
+    let mut store = Store::new(alloc, 54)?;
+    store.set(letter(b'A'), a);
     let registers = Registers {
         place: first_place(&program),
-        store: Store::new(alloc, 54)?,
+        store,
         stack: Stack::new(),
     };
     Ok((program, registers))
 }
 
-// Does the first command of a program by its code.
-pub(crate) fn execute_first<C: Chooser, S: Screen, L: LineSource>(
-    program: &Program,
-    registers: &mut Registers,
-    io: &mut CommandIo<'_, C, S, L>,
-) -> Result<(), Stop> {
-    execute_with(program, registers, io, &mut Output::new())
+// What a command is done with.
+#[derive(Clone, Copy)]
+pub(crate) struct Given<'a> {
+    pub(crate) lines: &'a [Line],
+    pub(crate) answers: &'a [i16],
+    pub(crate) rules: Rules,
 }
 
-// The same with an output that is lent.
-pub(crate) fn execute_with<C: Chooser, S: Screen, L: LineSource>(
+// Does the first command of a program. How it is done, and whether the transcript is fresh then.
+pub(crate) fn done<S: Screen>(
     program: &Program,
     registers: &mut Registers,
-    io: &mut CommandIo<'_, C, S, L>,
+    given: Given<'_>,
+    screen: &mut S,
     output: &mut Output,
-) -> Result<(), Stop> {
+) -> (Result<(), Stop>, bool) {
     let (_, text) = line_at(program, 0);
     let mut cursor = Cursor::new(text, 0);
     let mut code = CommandCode::new();
@@ -173,12 +190,29 @@ pub(crate) fn execute_with<C: Chooser, S: Screen, L: LineSource>(
         operations: code.operations(),
         steps: code.steps(),
     };
-    registers.execute(context, io, output)
+    let mut chooser = Listed::new(given.answers);
+    let mut source = Lines::new(given.lines);
+    let mut io = CommandIo::new(&mut chooser, screen, &mut source, true, given.rules);
+    let result = registers.execute(context, &mut io, output);
+    (result, io.fresh)
 }
 
-// The place in its statement at which a run continues after a command that was done so.
-pub(crate) fn next_place(done: Result<(), Stop>, registers: &Registers) -> Result<usize, Stop> {
-    done.map(|()| registers.place.map_or(0, |place| place.at))
+// What a command does: why it stops, or the statement and the place in it at which the run continues.
+pub(crate) type Doing = Result<(usize, usize), Stop>;
+
+// A command that was stopped by a write that failed.
+pub(crate) const UNWRITTEN: Doing = Err(Stop::Unwritten);
+
+// A command that asked for an answer where none was left.
+pub(crate) const NO_ANSWER: Doing = Err(Stop::Pause(Pause::Ended));
+
+// What was done with registers. The text of a program is never over after its first command.
+pub(crate) fn doing(done: Result<(), Stop>, registers: &Registers) -> Doing {
+    match (done, registers.place) {
+        (Ok(()), Some(place)) => Ok((place.statement, place.at)),
+        (Ok(()), None) => Ok((usize::MAX, usize::MAX)),
+        (Err(stop), _) => Err(stop),
+    }
 }
 
 // Rules by which a run ends where no line is left.
@@ -197,4 +231,16 @@ pub(crate) fn loaded(alloc: Global, text: &[u8]) -> Result<Program, Fail>
 {
     let mut text = text;
     Ok(load(alloc, MEMORY, &mut Device::new(&mut text))?)
+}
+
+// So many lines with the same text, numbered from 1000 on.
+pub(crate) fn push_lines(program: &mut Vec<u8>, count: u8, text: &[u8]) -> Result<(), Fail> {
+    for n in 0..count {
+        let hundreds = (n / 100).wrapping_add(b'0');
+        let tens = (n / 10 % 10).wrapping_add(b'0');
+        let ones = (n % 10).wrapping_add(b'0');
+        program.extend_from_slice(&[b'1', hundreds, tens, ones])?;
+        program.extend_from_slice(text)?;
+    }
+    Ok(())
 }

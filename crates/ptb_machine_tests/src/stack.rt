@@ -1,22 +1,26 @@
 // This file tests the control stack: what FOR, NEXT, GOSUB and RETURN leave open.
 
-use crate::shared::{expect_same, letter};
-use ptb_code::{Location, NESTING_LIMIT, OpenLoop, SavedStack, Stack};
+use crate::shared::{expect_same, letter, numbers};
+use ptb_command::{Location, NESTING_LIMIT, OpenLoop, SavedStack, Stack};
 use ptb_text::Letter;
 use std::alloc::Global;
 use std::process::Abort;
 
-// A loop of this variable.
-fn loop_of(letter: Letter) -> OpenLoop {
-    let back = Location {
-        statement: 1,
-        at: 2,
-    };
-    OpenLoop {
-        back,
-        letter,
-        limit: 9,
-        step: 1,
+// What is opened: `(` for a call, or the letter of a loop; to where it leads back, its limit and its
+// step. A call has neither.
+type Opening = (u8, (usize, usize), i16, i16);
+
+// Opens a call or a loop, and says whether there was room.
+fn open(stack: &mut Stack, (byte, (statement, at), limit, step): Opening) -> bool {
+    let back = Location { statement, at };
+    match Letter::new(byte) {
+        Some(letter) => stack.open_loop(OpenLoop {
+            back,
+            letter,
+            limit,
+            step,
+        }),
+        None => stack.open_call(back),
     }
 }
 
@@ -24,10 +28,6 @@ fn loop_of(letter: Letter) -> OpenLoop {
 // closes the newest call, `a` the loops that are newer than that of A, and `-` what is newest.
 fn change(stack: &mut Stack, byte: u8) -> bool {
     match byte {
-        b'(' => stack.open_call(Location {
-            statement: 3,
-            at: 4,
-        }),
         b')' => stack.close_call().is_some(),
         b'-' => {
             stack.close_newest();
@@ -35,76 +35,102 @@ fn change(stack: &mut Stack, byte: u8) -> bool {
         }
         b'a' => stack.close_newer(letter(b'A')).is_some(),
         b'b' => stack.close_newer(letter(b'B')).is_some(),
-        _ => match Letter::new(byte) {
-            Some(letter) => stack.open_loop(loop_of(letter)),
-            None => false,
-        },
+        _ => open(stack, (byte, (1, 2), 9, 1)),
     }
 }
 
-// How many loops and calls are open.
-fn count_of(stack: &Stack) -> usize {
-    let mut copy = stack.copy();
-    for count in 0..NESTING_LIMIT {
-        if copy.is_empty() {
-            return count;
-        }
-        copy.close_newest();
+// The stack after these changes, and whether the last one was done.
+fn changed(script: &str) -> (Stack, bool) {
+    let mut stack = Stack::new();
+    let mut last = true;
+    for &byte in script.as_bytes() {
+        last = change(&mut stack, byte);
     }
-    NESTING_LIMIT
+    (stack, last)
 }
 
-// Whether this is the newest: `(` for a call, with which it alone is closed, and the letter of a
-// loop, above which nothing is closed.
-fn is_newest(stack: &Stack, byte: u8) -> bool {
-    let mut copy = stack.copy();
-    let (found, closed) = match Letter::new(byte) {
-        Some(letter) => (copy.close_newer(letter).is_some(), 0),
-        None => (copy.close_call().is_some(), 1),
-    };
-    found && count_of(&copy).saturating_add(closed) == count_of(stack)
+// What is saved of a stack.
+fn saved(rt: &impl Abort, alloc: Global, stack: &Stack) -> SavedStack {
+    let mut saved = SavedStack::new(alloc);
+    expect_same(rt, "saved", saved.save(stack), Ok(()));
+    saved
 }
 
-// What is open, newest first; it is closed.
-fn expect_open(rt: &impl Abort, what: &str, stack: &mut Stack, open: &[u8]) {
-    for &byte in open {
-        let found = (byte, is_newest(stack, byte));
-        expect_same(rt, what, found, (byte, true));
-        stack.close_newest();
-    }
-    expect_same(rt, what, stack.is_empty(), true);
+// Whether two stacks hold the same, whichever is asked, and whether they have one hash.
+fn expect_likeness(
+    rt: &impl Abort,
+    alloc: Global,
+    one: &Stack,
+    other: &Stack,
+    (what, same, same_hash): (&str, bool, bool),
+) {
+    let one = saved(rt, alloc, one);
+    let other = saved(rt, alloc, other);
+    let hash = one.hash() == other.hash();
+    let found = (one.is_same(&other), other.is_same(&one), hash);
+    expect_same(rt, what, found, (same, same, same_hash));
 }
 
-// Whether the last change was done, and what is open then, newest first.
-const CHANGES: &[(&str, bool, &[u8])] = &[
-    ("(", true, b"("),
-    ("AB(", true, b"(BA"),
-    (")", false, b""),
-    ("AB)", false, b"BA"),
-    ("A(BC)", true, b"A"),
-    ("A(B(C)", true, b"B(A"),
-    ("a", false, b""),
-    ("ABCa", true, b"A"),
-    ("ABCb", true, b"BA"),
-    ("A(Ba", false, b"B(A"),
-    ("A(BAb", true, b"B(A"),
-    ("ABA", true, b"AB"),
-    ("BAB", true, b"BA"),
-    ("A(A", true, b"A(A"),
-    ("-", true, b""),
-    ("A(-", true, b"A"),
+// Changes, and whether the last one was done; other changes, and whether the same is open after both.
+const CHANGES: &[(&str, bool, &str, bool)] = &[
+    // what is opened
+    ("", true, "", true),
+    ("", true, "A", false),
+    ("(", true, "(", true),
+    ("((", true, "(", false),
+    ("A", true, "A", true),
+    ("A", true, "B", false),
+    ("A", true, "(", false),
+    ("AB", true, "BA", false),
+    ("AB(", true, "AB(", true),
+    ("AB(", true, "AB", false),
+    ("A(B", true, "A(C", false),
+    ("A(B", true, "A(B", true),
+    ("A(A", true, "A(A", true),
+    ("A(A", true, "A(", false),
+    // a loop that is opened again
+    ("AA", true, "A", true),
+    ("ABA", true, "BA", true),
+    ("BAB", true, "AB", true),
+    // what is closed
+    (")", false, "", true),
+    ("AB)", false, "AB", true),
+    ("A(B)", true, "A", true),
+    ("A(BC)", true, "A", true),
+    ("A(B(C)", true, "A(B", true),
+    ("a", false, "", true),
+    ("ABCa", true, "A", true),
+    ("ABCb", true, "AB", true),
+    ("A(Ba", false, "A(B", true),
+    ("A(BAb", true, "A(B", true),
+    ("-", true, "", true),
+    ("A-", true, "", true),
+    ("A(-", true, "A", true),
 ];
+
+// A copy has what was open, whatever is opened later. Whatever is open in a stack, it takes over what
+// a copy has, or what was saved, and keeps nothing of its own.
+fn expect_copies(rt: &impl Abort, alloc: Global, script: &str, other: &str) {
+    let (one, _) = changed(script);
+    let (mut two, _) = changed(other);
+    let copy = two.copy();
+    let _ = change(&mut two, b'Z');
+    two.copy_from(&one);
+    expect_likeness(rt, alloc, &two, &one, (script, true, true));
+    two.copy_from(&copy);
+    expect_likeness(rt, alloc, &two, &changed(other).0, (other, true, true));
+    two.restore(&saved(rt, alloc, &one));
+    expect_likeness(rt, alloc, &two, &one, (script, true, true));
+}
 
 #[test]
 fn changes(rt: HostRuntime) {
-    for &(script, done, open) in CHANGES {
-        let mut stack = Stack::new();
-        let mut last = true;
-        for &byte in script.as_bytes() {
-            last = change(&mut stack, byte);
-        }
+    for &(script, done, other, same) in CHANGES {
+        let (one, last) = changed(script);
+        let (two, _) = changed(other);
         expect_same(&rt, script, last, done);
-        expect_open(&rt, script, &mut stack, open);
+        expect_likeness(&rt, rt.alloc(), &one, &two, (script, same, same));
+        expect_copies(&rt, rt.alloc(), script, other);
     }
 }
 
@@ -125,11 +151,16 @@ const LAST_ROOM: &[(u8, bool)] = &[
 #[test]
 fn room(rt: HostRuntime) {
     let mut stack = Stack::new();
-    for _ in 0..255 {
+    for _ in 1..NESTING_LIMIT {
         expect_same(&rt, "call", change(&mut stack, b'('), true);
     }
     for &(byte, done) in LAST_ROOM {
-        expect_same(&rt, "change", change(&mut stack, byte), done);
+        expect_same(
+            &rt,
+            "change",
+            (byte, change(&mut stack, byte)),
+            (byte, done),
+        );
     }
 }
 
@@ -137,150 +168,37 @@ fn room(rt: HostRuntime) {
 #[test]
 fn places(rt: HostRuntime) {
     let mut stack = Stack::new();
-    let opened = (change(&mut stack, b'('), change(&mut stack, b'A'));
+    let call = open(&mut stack, (b'(', (3, 4), 0, 0));
+    let opened = (call, open(&mut stack, (b'A', (1, 2), 9, 1)));
     expect_same(&rt, "opened", opened, (true, true));
-    let begin = stack
-        .close_newer(letter(b'A'))
-        .map(|item| (item.back.statement, item.back.at));
-    let back = stack.close_call().map(|back| (back.statement, back.at));
+    let begin = match stack.close_newer(letter(b'A')) {
+        Some(item) => numbers(Some(item.back)),
+        None => None,
+    };
+    let back = numbers(stack.close_call());
     expect_same(&rt, "places", (begin, back), (Some((1, 2)), Some((3, 4))));
 }
 
-// A copy has what was open, whatever is closed or opened later; a stack that takes it over keeps
-// nothing of its own.
-#[test]
-fn copies(rt: HostRuntime) {
-    let mut stack = Stack::new();
-    let opened = (change(&mut stack, b'A'), change(&mut stack, b'('));
-    let mut copy = stack.copy();
-    let changed = (
-        change(&mut stack, b'B'),
-        change(&mut copy, b'C'),
-        change(&mut copy, b'-'),
-    );
-    expect_same(
-        &rt,
-        "done",
-        (opened, changed),
-        ((true, true), (true, true, true)),
-    );
-    stack.copy_from(&copy);
-    expect_open(&rt, "copy", &mut copy, b"(A");
-    expect_open(&rt, "stack", &mut stack, b"(A");
-}
-
-// The stack after these changes.
-fn changed(script: &str) -> Stack {
-    let mut stack = Stack::new();
-    for &byte in script.as_bytes() {
-        let _ = change(&mut stack, byte);
-    }
-    stack
-}
-
-// What is saved of a stack.
-fn saved(rt: &impl Abort, alloc: Global, stack: &Stack) -> SavedStack {
-    let mut saved = SavedStack::new(alloc);
-    expect_same(rt, "saved", saved.save(stack), Ok(()));
-    saved
-}
-
-// Whether two stacks hold the same, whichever is asked, and have one hash.
-fn expect_likeness(
-    rt: &impl Abort,
-    alloc: Global,
-    one: &Stack,
-    other: &Stack,
-    (what, same): (&str, bool),
-) {
-    let one = saved(rt, alloc, one);
-    let other = saved(rt, alloc, other);
-    let found = (one.is_same(&other), other.is_same(&one));
-    expect_same(rt, what, found, (same, same));
-    expect_same(rt, what, one.hash() == other.hash(), same);
-}
-
-// Two lists of changes, and whether the same is open after them.
-const PAIRS: &[(&str, &str, bool)] = &[
-    ("", "", true),
-    ("", "A", false),
-    ("(", "(", true),
-    ("((", "(", false),
-    ("A", "A", true),
-    ("A", "B", false),
-    ("A", "(", false),
-    ("AB", "BA", false),
-    ("A(B", "A(C", false),
-    ("A(B", "A(B", true),
-    ("A(B)", "A", true),
-    ("AA", "A", true),
-    ("A-", "", true),
+// Changes that open one loop or call, another one that is opened alone, whether both are the same, and
+// whether they have one hash, which leaves the step out.
+const OPENINGS: &[(&str, Opening, bool, bool)] = &[
+    ("A", (b'A', (1, 2), 9, 1), true, true),
+    ("A", (b'A', (2, 2), 9, 1), false, false),
+    ("A", (b'A', (1, 3), 9, 1), false, false),
+    ("A", (b'B', (1, 2), 9, 1), false, false),
+    ("A", (b'A', (1, 2), 8, 1), false, false),
+    ("A", (b'A', (1, 2), 9, -1), false, true),
+    ("(", (b'(', (1, 2), 0, 0), true, true),
+    ("(", (b'(', (2, 2), 0, 0), false, false),
+    ("(", (b'(', (1, 3), 0, 0), false, false),
 ];
 
 #[test]
-fn same_stacks(rt: HostRuntime) {
-    for &(script, other, same) in PAIRS {
-        let (one, other) = (changed(script), changed(other));
-        expect_likeness(&rt, rt.alloc(), &one, &other, (script, same));
-    }
-}
-
-// Whatever is open in a stack, it takes over what was saved of another one.
-#[test]
-fn restored_stacks(rt: HostRuntime) {
-    for &(script, other, _) in PAIRS {
-        let mut stack = changed(other);
-        stack.restore(&saved(&rt, rt.alloc(), &changed(script)));
-        expect_likeness(&rt, rt.alloc(), &stack, &changed(script), (script, true));
-    }
-}
-
-// A loop: its place, its variable, its limit and its step; and whether it is that of A to 9 by 1 which
-// begins at byte 2 of statement 1.
-const LOOPS: &[((usize, usize), u8, i16, i16, bool)] = &[
-    ((1, 2), b'A', 9, 1, true),
-    ((2, 2), b'A', 9, 1, false),
-    ((1, 3), b'A', 9, 1, false),
-    ((1, 2), b'B', 9, 1, false),
-    ((1, 2), b'A', 8, 1, false),
-];
-
-// A stack on which a loop alone is open.
-fn looping(rt: &impl Abort, place: (usize, usize), byte: u8, limit: i16, step: i16) -> Stack {
-    let mut stack = Stack::new();
-    let (statement, at) = place;
-    let opened = stack.open_loop(OpenLoop {
-        back: Location { statement, at },
-        letter: Letter::new(byte).expect(rt, "a letter"),
-        limit,
-        step,
-    });
-    expect_same(rt, "opened", opened, true);
-    stack
-}
-
-#[test]
-fn same_loops(rt: HostRuntime) {
-    for &(place, byte, limit, step, same) in LOOPS {
-        let stack = looping(&rt, place, byte, limit, step);
-        expect_likeness(&rt, rt.alloc(), &changed("A"), &stack, ("loop", same));
-    }
-    // the hash leaves the step out
-    let stack = looping(&rt, (1, 2), b'A', 9, -1);
-    let one = saved(&rt, rt.alloc(), &changed("A"));
-    let other = saved(&rt, rt.alloc(), &stack);
-    expect_same(&rt, "step", one.is_same(&other), false);
-}
-
-// A place to which a call returns, and whether it is byte 4 of statement 3.
-const CALLS: &[(usize, usize, bool)] = &[(3, 4, true), (2, 4, false), (3, 5, false)];
-
-#[test]
-fn same_calls(rt: HostRuntime) {
-    for &(statement, at, same) in CALLS {
-        let mut stack = Stack::new();
-        let opened = stack.open_call(Location { statement, at });
-        expect_same(&rt, "opened", opened, true);
-        expect_likeness(&rt, rt.alloc(), &changed("("), &stack, ("call", same));
+fn same_openings(rt: HostRuntime) {
+    for &(script, opening, same, same_hash) in OPENINGS {
+        let (one, _) = changed(script);
+        let mut other = Stack::new();
+        expect_same(&rt, "opened", open(&mut other, opening), true);
+        expect_likeness(&rt, rt.alloc(), &one, &other, (script, same, same_hash));
     }
 }

@@ -1,62 +1,34 @@
 // This file tests the code into which a command is translated, and where the next command begins.
 
 use crate::shared::{cursor_in_front, expect_same};
-use crate::translations::Shape::{
-    Ask, AskReturn, AskString, Discard, Done, EndTurn, Fail, For, Gosub, Goto, If, NewLine, Remark,
-    Return, ReturnByte, Set, SetElement, SetNothing, Show, Stop, Text, Width,
-};
-use ptb_code::{Literal, Prompt};
+use ptb_command::{Literal, Prompt};
 use ptb_expr::FaultKind::{How, What};
 use ptb_expr::{FaultKind, Step};
 use ptb_machine::{CommandCode, Destination, Operation, translate};
 
-// An operation without its expressions: what it does, and its marks and places.
-#[derive(Clone, Copy, Debug, PartialEq, Eq)]
-enum Shape {
-    Set,
-    SetElement(u8),
-    SetNothing,
-    Text(u8, u8),
-    ReturnByte,
-    Show,
-    Width(u8),
-    NewLine,
-    Ask(u8, u8),
-    AskString(u8, u8),
-    AskReturn,
-    Discard,
-    Fail(FaultKind, u8),
-    Done(u8),
-    If(u8),
-    Goto(u8),
-    Gosub(u8, u8),
-    Return(u8),
-    For(u8, u8),
-    EndTurn(u8, u8),
-    Stop,
-    Remark,
-}
+// An operation without its expressions: what it does, and its marks and places, or 0.
+type Shape = (&'static str, u8, u8);
 
 fn shape_of_set(destination: Destination) -> Shape {
     match destination {
-        Destination::Letter(_) => Set,
-        Destination::Element(_, mark) => SetElement(mark),
-        Destination::Missing(_) => SetNothing,
+        Destination::Letter(_) => ("set", 0, 0),
+        Destination::Element(_, mark) => ("set element", mark, 0),
+        Destination::Missing(_) => ("set nothing", 0, 0),
     }
 }
 
 fn shape_of_literal(literal: Literal) -> Shape {
     match literal {
-        Literal::Text(range) => Text(range.from, range.to),
-        Literal::Return => ReturnByte,
+        Literal::Text(range) => ("text", range.from, range.to),
+        Literal::Return => ("return byte", 0, 0),
     }
 }
 
 fn shape_of_prompt(prompt: Prompt) -> Shape {
     match prompt {
-        Prompt::Name(range) => Ask(range.from, range.to),
-        Prompt::Text(range) => AskString(range.from, range.to),
-        Prompt::Return => AskReturn,
+        Prompt::Name(range) => ("ask", range.from, range.to),
+        Prompt::Text(range) => ("ask string", range.from, range.to),
+        Prompt::Return => ("ask return", 0, 0),
     }
 }
 
@@ -64,21 +36,23 @@ fn shape_of(operation: Operation) -> Shape {
     match operation {
         Operation::Set(destination, _) => shape_of_set(destination),
         Operation::Say(literal) => shape_of_literal(literal),
-        Operation::Show(_) => Show,
-        Operation::Width(_, mark) => Width(mark),
-        Operation::NewLine => NewLine,
+        Operation::Show(_) => ("show", 0, 0),
+        Operation::Width(_, mark) => ("width", mark, 0),
+        Operation::NewLine => ("new line", 0, 0),
         Operation::Input(prompt, _) => shape_of_prompt(prompt),
-        Operation::Discard(_) => Discard,
-        Operation::Fail(kind, mark) => Fail(kind, mark),
-        Operation::Done { next } => Done(next),
-        Operation::If { then, .. } => If(then),
-        Operation::Goto { end, .. } => Goto(end),
-        Operation::Gosub { end, next, .. } => Gosub(end, next),
-        Operation::Return { end } => Return(end),
-        Operation::For { end, next, .. } => For(end, next),
-        Operation::EndTurn { end, next, .. } => EndTurn(end, next),
-        Operation::Stop => Stop,
-        Operation::Remark => Remark,
+        Operation::Discard(_) => ("discard", 0, 0),
+        Operation::Fail(What, mark) => ("fail what", mark, 0),
+        Operation::Fail(How, mark) => ("fail how", mark, 0),
+        Operation::Fail(FaultKind::Sorry, mark) => ("fail sorry", mark, 0),
+        Operation::Done { next } => ("done", next, 0),
+        Operation::If { then, .. } => ("if", then, 0),
+        Operation::Goto { end, .. } => ("goto", end, 0),
+        Operation::Gosub { end, next, .. } => ("gosub", end, next),
+        Operation::Return { end } => ("return", end, 0),
+        Operation::For { end, next, .. } => ("for", end, next),
+        Operation::EndTurn { end, next, .. } => ("end turn", end, next),
+        Operation::Stop => ("stop", 0, 0),
+        Operation::Remark => ("remark", 0, 0),
     }
 }
 
@@ -95,79 +69,121 @@ fn last_fault(steps: &[Step]) -> Option<(FaultKind, u8)> {
 const TRANSLATIONS: &[(&str, &[Shape], Option<(FaultKind, u8)>, Option<usize>)] = &[
     (
         "LET A=1,@(2)=A;P.1",
-        &[Set, SetElement(12), Done(15)],
+        &[("set", 0, 0), ("set element", 12, 0), ("done", 15, 0)],
         None,
         Some(15),
     ),
-    ("A=1", &[Set, Done(3)], None, None),
-    ("A=1 ; B=2", &[Set, Done(6)], None, Some(6)),
-    ("A=1X", &[Set, Fail(What, 3)], None, None),
-    ("A=1,B=(2", &[Set, Set], Some((What, 8)), None),
-    ("A 1", &[Set], Some((What, 2)), None),
-    ("A=40000", &[Set], Some((How, 7)), None),
-    (",", &[SetNothing], Some((What, 0)), None),
-    (";P.1", &[SetNothing], Some((What, 0)), None),
-    ("", &[SetNothing], Some((What, 0)), None),
-    ("IF A=1 P.2", &[If(7)], None, Some(7)),
-    ("IF A", &[If(4)], None, Some(4)),
-    ("IF (", &[Discard], Some((What, 4)), None),
-    ("GOTO 20", &[Goto(7)], None, None),
-    ("GOTO 20;P.1", &[Discard, Fail(What, 7)], None, None),
-    ("GOTO", &[Discard], Some((What, 4)), None),
-    ("GOSUB 20 ;P.1", &[Gosub(9, 10)], None, Some(10)),
-    ("GOSUB 20", &[Gosub(8, 8)], None, None),
-    ("GOSUB 20,", &[Discard, Fail(What, 8)], None, None),
-    ("RETURN", &[Return(6)], None, None),
-    ("RETURN;", &[Fail(What, 6)], None, None),
+    ("A=1", &[("set", 0, 0), ("done", 3, 0)], None, None),
+    ("A=1 ; B=2", &[("set", 0, 0), ("done", 6, 0)], None, Some(6)),
+    ("A=1X", &[("set", 0, 0), ("fail what", 3, 0)], None, None),
+    (
+        "A=1,B=(2",
+        &[("set", 0, 0), ("set", 0, 0)],
+        Some((What, 8)),
+        None,
+    ),
+    ("A 1", &[("set", 0, 0)], Some((What, 2)), None),
+    ("A=40000", &[("set", 0, 0)], Some((How, 7)), None),
+    (",", &[("set nothing", 0, 0)], Some((What, 0)), None),
+    (";P.1", &[("set nothing", 0, 0)], Some((What, 0)), None),
+    ("", &[("set nothing", 0, 0)], Some((What, 0)), None),
+    ("IF A=1 P.2", &[("if", 7, 0)], None, Some(7)),
+    ("IF A", &[("if", 4, 0)], None, Some(4)),
+    ("IF (", &[("discard", 0, 0)], Some((What, 4)), None),
+    ("GOTO 20", &[("goto", 7, 0)], None, None),
+    (
+        "GOTO 20;P.1",
+        &[("discard", 0, 0), ("fail what", 7, 0)],
+        None,
+        None,
+    ),
+    ("GOTO", &[("discard", 0, 0)], Some((What, 4)), None),
+    ("GOSUB 20 ;P.1", &[("gosub", 9, 10)], None, Some(10)),
+    ("GOSUB 20", &[("gosub", 8, 8)], None, None),
+    (
+        "GOSUB 20,",
+        &[("discard", 0, 0), ("fail what", 8, 0)],
+        None,
+        None,
+    ),
+    ("RETURN", &[("return", 6, 0)], None, None),
+    ("RETURN;", &[("fail what", 6, 0)], None, None),
     (
         "FOR A=1 TO 9 STEP B;P.A",
-        &[Set, For(19, 20)],
+        &[("set", 0, 0), ("for", 19, 20)],
         None,
         Some(20),
     ),
-    ("F.A=1TO9", &[Set, For(8, 8)], None, None),
-    ("FOR 1", &[Fail(What, 4)], None, None),
-    ("FOR A=1", &[Set, Discard], Some((What, 7)), None),
+    ("F.A=1TO9", &[("set", 0, 0), ("for", 8, 8)], None, None),
+    ("FOR 1", &[("fail what", 4, 0)], None, None),
+    (
+        "FOR A=1",
+        &[("set", 0, 0), ("discard", 0, 0)],
+        Some((What, 7)),
+        None,
+    ),
     (
         "F.A=1TO9,",
-        &[Set, Discard, Discard, Fail(What, 8)],
+        &[
+            ("set", 0, 0),
+            ("discard", 0, 0),
+            ("discard", 0, 0),
+            ("fail what", 8, 0),
+        ],
         None,
         None,
     ),
     (
         "F.A=1TO9S.",
-        &[Set, Discard, Discard],
+        &[("set", 0, 0), ("discard", 0, 0), ("discard", 0, 0)],
         Some((What, 10)),
         None,
     ),
-    ("NEXT A;P.1", &[EndTurn(6, 7)], None, Some(7)),
-    ("NEXT A", &[EndTurn(6, 6)], None, None),
-    ("NEXT 1", &[Fail(What, 5)], None, None),
-    ("NEXT A,", &[Fail(What, 6)], None, None),
+    ("NEXT A;P.1", &[("end turn", 6, 7)], None, Some(7)),
+    ("NEXT A", &[("end turn", 6, 6)], None, None),
+    ("NEXT 1", &[("fail what", 5, 0)], None, None),
+    ("NEXT A,", &[("fail what", 6, 0)], None, None),
     (
         "INPUT A,'N'@(1),_;P.A",
-        &[Ask(6, 7), AskString(9, 10), ReturnByte, Done(18)],
+        &[
+            ("ask", 6, 7),
+            ("ask string", 9, 10),
+            ("return byte", 0, 0),
+            ("done", 18, 0),
+        ],
         None,
         Some(18),
     ),
-    ("IN._B", &[AskReturn, Done(5)], None, None),
-    ("IN.A,", &[Ask(3, 4), Fail(What, 5)], None, None),
-    ("IN.'N", &[Fail(What, 3)], None, None),
-    ("IN.'N'@(", &[AskString(4, 5)], Some((What, 8)), None),
+    ("IN._B", &[("ask return", 0, 0), ("done", 5, 0)], None, None),
+    ("IN.A,", &[("ask", 3, 4), ("fail what", 5, 0)], None, None),
+    ("IN.'N", &[("fail what", 3, 0)], None, None),
+    ("IN.'N'@(", &[("ask string", 4, 5)], Some((What, 8)), None),
     (
         "P.'A',_,#3,B;P.1",
-        &[Text(3, 4), ReturnByte, Width(10), Show, NewLine, Done(13)],
+        &[
+            ("text", 3, 4),
+            ("return byte", 0, 0),
+            ("width", 10, 0),
+            ("show", 0, 0),
+            ("new line", 0, 0),
+            ("done", 13, 0),
+        ],
         None,
         Some(13),
     ),
-    ("PRINT", &[NewLine, Done(5)], None, None),
-    ("P.1,", &[Show, Done(4)], None, None),
-    ("P.1 2", &[Show, NewLine, Fail(What, 4)], None, None),
-    ("P.,", &[Show], Some((What, 2)), None),
-    ("P.'A", &[Fail(What, 2)], None, None),
-    ("STOP", &[Stop], None, None),
-    ("STOP;", &[Fail(What, 4)], None, None),
-    ("REM A;P.1", &[Remark], None, None),
+    ("PRINT", &[("new line", 0, 0), ("done", 5, 0)], None, None),
+    ("P.1,", &[("show", 0, 0), ("done", 4, 0)], None, None),
+    (
+        "P.1 2",
+        &[("show", 0, 0), ("new line", 0, 0), ("fail what", 4, 0)],
+        None,
+        None,
+    ),
+    ("P.,", &[("show", 0, 0)], Some((What, 2)), None),
+    ("P.'A", &[("fail what", 2, 0)], None, None),
+    ("STOP", &[("stop", 0, 0)], None, None),
+    ("STOP;", &[("fail what", 4, 0)], None, None),
+    ("REM A;P.1", &[("remark", 0, 0)], None, None),
 ];
 
 // The code of each command replaces that of the one before it.
@@ -179,8 +195,12 @@ fn translations(rt: HostRuntime) {
         let next_then = translate(&mut cursor, &mut code);
         let found = (code.operations().len(), last_fault(code.steps()), next_then);
         expect_same(&rt, text, found, (operations.len(), malformed, next));
-        for (operation, want) in code.operations().iter().zip(operations) {
-            expect_same(&rt, text, shape_of(*operation), *want);
+        let mut left = code.operations();
+        for &want in operations {
+            if let [first, rest @ ..] = left {
+                expect_same(&rt, text, shape_of(*first), want);
+                left = rest;
+            }
         }
     }
 }
