@@ -2,7 +2,6 @@
 
 use crate::commands::expect_command;
 use crate::shared::{Doing, Given, fault, plain_rules};
-use std::test::Fail;
 
 // Each LET: the place after it or why it stops, A, and the element 3.
 const ASSIGNMENTS: &[(&str, Doing, i16, i16)] = &[
@@ -25,14 +24,13 @@ const ASSIGNMENTS: &[(&str, Doing, i16, i16)] = &[
 ];
 
 #[test]
-fn assignments(rt: HostRuntime) -> Result<(), Fail> {
+fn assignments(rt: HostRuntime) {
     let given = Given {
         lines: &[],
         answers: &[],
         rules: plain_rules(1),
     };
     for &(line, want, a, element) in ASSIGNMENTS {
-        expect_command(&rt, rt.alloc(), (line, 0), given, (want, b"", a, element))?;
+        expect_command(&rt, rt.alloc(), (line, 0), given, (want, b"", a, element));
     }
-    Ok(())
 }

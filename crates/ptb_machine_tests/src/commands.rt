@@ -14,7 +14,6 @@ use ptb_machine::{line_at, start_of};
 use ptb_text::{Letter, LoadFault, Program};
 use std::alloc::{AllocError, Global};
 use std::process::Abort;
-use std::test::Fail;
 
 // The program of two lines, of which each may be empty.
 fn program(alloc: Global, first: &[u8], second: &[u8]) -> Result<Program, LoadFault> {
@@ -83,8 +82,8 @@ pub(crate) fn expect_command(
     (line, a): (&str, i16),
     given: Given<'_>,
     (want, shown, a_then, element): Effect<'_>,
-) -> Result<(), Fail> {
-    let (program, mut registers) = with_line(alloc, line, a)?;
+) {
+    let (program, mut registers) = with_line(rt, alloc, line, a);
     let mut screen = TextScreen::new(alloc);
     let (result, fresh) = done(
         &program,
@@ -106,7 +105,6 @@ pub(crate) fn expect_command(
         ((want, shown), true, is_fresh(shown)),
     );
     expect_same(rt, line, stored, (a_then, Ok(element)));
-    Ok(())
 }
 
 // Commands that open and close nothing, where A is 1, with a line and an answer: what is done and
@@ -144,17 +142,16 @@ const COMMANDS: &[(&str, Doing, &[u8], i16)] = &[
 ];
 
 #[test]
-fn commands(rt: HostRuntime) -> Result<(), Fail> {
-    let lines = lines_of(rt.alloc(), &[b"5"])?;
+fn commands(rt: HostRuntime) {
+    let lines = lines_of(rt.alloc(), &[b"5"]).expect(&rt, "memory");
     let given = Given {
         lines: &lines,
         answers: &[4],
         rules: plain_rules(1),
     };
     for &(line, want, shown, a) in COMMANDS {
-        expect_command(&rt, rt.alloc(), (line, 1), given, (want, shown, a, 0))?;
+        expect_command(&rt, rt.alloc(), (line, 1), given, (want, shown, a, 0));
     }
-    Ok(())
 }
 
 // Commands that open or close, where A and B are 0: what is open before, what is done, A, to where
@@ -187,9 +184,9 @@ fn nothing() -> Given<'static> {
 }
 
 #[test]
-fn loops_and_calls(rt: HostRuntime) -> Result<(), Fail> {
+fn loops_and_calls(rt: HostRuntime) {
     for &(line, before, want, a, back, left) in LOOPS_AND_CALLS {
-        let (program, mut registers) = with_line(rt.alloc(), line, 0)?;
+        let (program, mut registers) = with_line(&rt, rt.alloc(), line, 0);
         for &byte in before {
             expect_same(&rt, line, open(&mut registers.stack, byte), true);
         }
@@ -213,7 +210,6 @@ fn loops_and_calls(rt: HostRuntime) -> Result<(), Fail> {
             ((want, a), (back, left), true),
         );
     }
-    Ok(())
 }
 
 // How NEXT is done again and again, where A goes up to 1, the place then, and A: the loop has a turn,
@@ -225,8 +221,8 @@ const TURNS: &[(Result<(), Stop>, (usize, usize), i16)] = &[
 ];
 
 #[test]
-fn turns(rt: HostRuntime) -> Result<(), Fail> {
-    let (program, mut registers) = with_line(rt.alloc(), "10 NEXT A;P.1", 0)?;
+fn turns(rt: HostRuntime) {
+    let (program, mut registers) = with_line(&rt, rt.alloc(), "10 NEXT A;P.1", 0);
     let mut screen = TextScreen::new(rt.alloc());
     let mut output = Output::new();
     expect_same(&rt, "loop", open(&mut registers.stack, b'A'), true);
@@ -242,20 +238,17 @@ fn turns(rt: HostRuntime) -> Result<(), Fail> {
         let found = (result, place_then, registers.store.get(letter(b'A')));
         expect_same(&rt, "turn", found, (want, Some(place), a));
     }
-    Ok(())
 }
 
 // Passes whichever of its allocations is refused.
 #[test]
-fn first_registers(rt: HostRuntime) -> Result<(), Fail> {
-    let Some(program) = program_or_refusal(&rt, rt.alloc(), b"20 STOP", b"10 A=1") else {
-        return Ok(());
-    };
-    match Registers::new(rt.alloc(), &program) {
-        Ok(registers) => expect_first(&rt, &registers, program.size()),
-        Err(AllocError) => {}
+fn first_registers(rt: HostRuntime) {
+    if let Some(program) = program_or_refusal(&rt, rt.alloc(), b"20 STOP", b"10 A=1") {
+        match Registers::new(rt.alloc(), &program) {
+            Ok(registers) => expect_first(&rt, &registers, program.size()),
+            Err(AllocError) => {}
+        }
     }
-    Ok(())
 }
 
 // The registers at the beginning of a run, with an array of this size.
@@ -275,29 +268,30 @@ fn expect_first(rt: &impl Abort, registers: &Registers, size: i16) {
     expect_same(rt, "element", store.element(2), Ok(0));
 }
 
-// Registers of a program, where A is 7 and a call is open, and a copy of them.
-fn copied(
+// Registers of a program, where A is 7 and a call is open.
+fn registers_with_a_call(
     rt: &impl Abort,
     alloc: Global,
     program: &Program,
-) -> Result<(Registers, Registers), AllocError> {
+) -> Result<Registers, AllocError> {
     let mut registers = Registers::new(alloc, program)?;
     registers.store.set(letter(b'A'), 7);
     expect_same(rt, "call", open(&mut registers.stack, b'('), true);
-    let copy = registers.copy(alloc)?;
-    Ok((registers, copy))
+    Ok(registers)
 }
 
-// Registers that take over an array of size 4 hold it and an A of 0, or what they held.
-fn expect_four(
+// Registers take over a copy with an array of size 4 and another A, or hold what they held.
+fn expect_taken_over(
     rt: &impl Abort,
     alloc: Global,
     registers: &mut Registers,
-    copy: &mut Registers,
 ) -> Result<(), AllocError> {
     let size = registers.store.size();
+    let mut copy = registers.copy(alloc)?;
+    let found = (copy.store.get(letter(b'A')), copy.store.size());
+    expect_same(rt, "copy", found, (7, size));
     copy.store = Store::new(alloc, 4)?;
-    let wanted = match registers.copy_from(alloc, copy) {
+    let wanted = match registers.copy_from(alloc, &copy) {
         Ok(()) => (0, 4),
         Err(AllocError) => (7, size),
     };
@@ -306,83 +300,94 @@ fn expect_four(
     Ok(())
 }
 
-// What is saved of registers.
-fn saved(alloc: Global, registers: &Registers) -> Result<SavedRegisters, AllocError> {
-    let mut saved = SavedRegisters::new(alloc);
-    saved.save(registers)?;
-    Ok(saved)
+// Passes whichever of its allocations is refused.
+#[test]
+fn copied_registers(rt: HostRuntime) {
+    if let Some(program) = program_or_refusal(&rt, rt.alloc(), b"10 A=1", b"") {
+        if let Ok(mut registers) = registers_with_a_call(&rt, rt.alloc(), &program) {
+            expect_same(&rt, "size", registers.store.size(), program.size());
+            let _ = expect_taken_over(&rt, rt.alloc(), &mut registers);
+        }
+    }
 }
 
-// Whether two registers hold the same, whichever is asked, and have one hash.
+// What is saved of registers.
+fn saved(rt: &impl Abort, alloc: Global, registers: &Registers) -> SavedRegisters {
+    let mut saved = SavedRegisters::new(alloc);
+    expect_same(rt, "saved", saved.save(registers), Ok(()));
+    saved
+}
+
+// Whether registers hold what was saved, whichever is asked, and have its hash.
 fn expect_likeness(
     rt: &impl Abort,
     alloc: Global,
-    one: &Registers,
-    other: &Registers,
+    registers: &Registers,
+    wanted: &SavedRegisters,
     (what, same): (&str, bool),
-) -> Result<(), AllocError> {
-    let one = saved(alloc, one)?;
-    let other = saved(alloc, other)?;
-    let hash = one.hash() == other.hash();
-    let found = (one.is_same(&other), other.is_same(&one), hash);
-    expect_same(rt, what, found, (same, same, same));
-    Ok(())
+) {
+    let found = saved(rt, alloc, registers);
+    let hash = found.hash() == wanted.hash();
+    let likeness = (found.is_same(wanted), wanted.is_same(&found), hash);
+    expect_same(rt, what, likeness, (same, same, same));
 }
 
 // What is changed in registers at the first place, where A is 7 and a call is open: their place, A,
 // and whether a loop is opened.
-type Change = (&'static str, Option<(usize, usize)>, i16, bool);
+type Change = (Option<(usize, usize)>, i16, bool);
 
 // Each change, and whether the registers hold the same after it.
-const CHANGES: &[(Change, bool)] = &[
-    (("nothing", Some((0, 0)), 7, false), true),
-    (("no place", None, 7, false), false),
-    (("another place", Some((0, 1)), 7, false), false),
-    (("another value", Some((0, 0)), 8, false), false),
-    (("a loop", Some((0, 0)), 7, true), false),
-    (("all of these", None, 8, true), false),
+const CHANGES: &[(&str, Change, bool)] = &[
+    ("nothing", (Some((0, 0)), 7, false), true),
+    ("no place", (None, 7, false), false),
+    ("another place", (Some((0, 1)), 7, false), false),
+    ("another value", (Some((0, 0)), 8, false), false),
+    ("a loop", (Some((0, 0)), 7, true), false),
+    ("all of these", (None, 8, true), false),
 ];
 
-// A copy that takes over what registers hold is the same, after a change it is or is not, and once what
-// was saved of the registers is restored it is the same again.
-fn expect_change(
-    rt: &impl Abort,
-    alloc: Global,
-    registers: &Registers,
-    copy: &mut Registers,
-    ((what, place, a, opens), same): (Change, bool),
-) -> Result<(), AllocError> {
-    copy.copy_from(alloc, registers)?;
-    expect_likeness(rt, alloc, copy, registers, (what, true))?;
-    copy.place = match place {
+// Changes registers.
+fn change(registers: &mut Registers, (place, a, opens): Change) {
+    registers.place = match place {
         Some((statement, at)) => Some(Location { statement, at }),
         None => None,
     };
-    copy.store.set(letter(b'A'), a);
-    let opened = opens && open(&mut copy.stack, b'A');
-    let found = (opened, numbers(copy.place), copy.store.get(letter(b'A')));
-    expect_same(rt, what, found, (opens, place, a));
-    expect_likeness(rt, alloc, copy, registers, (what, same))?;
-    copy.restore(alloc, &saved(alloc, registers)?)?;
-    expect_likeness(rt, alloc, copy, registers, (what, true))
+    registers.store.set(letter(b'A'), a);
+    if opens {
+        open(&mut registers.stack, b'A');
+    }
 }
 
-// Passes whichever of its allocations is refused: registers that take over others hold then what they
-// held.
+// A copy of registers is the same. Changed registers hold what the copy holds where they take it over,
+// and also where they restore what was saved of it.
 #[test]
-fn copied_registers(rt: HostRuntime) {
-    let Some(program) = program_or_refusal(&rt, rt.alloc(), b"10 A=1", b"") else {
-        return;
-    };
-    let Ok((mut registers, mut copy)) = copied(&rt, rt.alloc(), &program) else {
-        return;
-    };
-    let _ = expect_likeness(&rt, rt.alloc(), &registers, &copy, ("copy", true));
-    for &change in CHANGES {
-        let _ = expect_change(&rt, rt.alloc(), &registers, &mut copy, change);
+fn same_registers(rt: HostRuntime) {
+    let program = program(rt.alloc(), b"10 A=1", b"").expect(&rt, "a program");
+    let copy = registers_with_a_call(&rt, rt.alloc(), &program).expect(&rt, "memory");
+    let wanted = saved(&rt, rt.alloc(), &copy);
+    let mut registers = copy.copy(rt.alloc()).expect(&rt, "memory");
+    for &(what, row, same) in CHANGES {
+        expect_likeness(&rt, rt.alloc(), &registers, &wanted, ("copy", true));
+        change(&mut registers, row);
+        expect_likeness(&rt, rt.alloc(), &registers, &wanted, (what, same));
+        expect_back(&rt, rt.alloc(), (&mut registers, row), &copy, &wanted);
     }
-    expect_same(&rt, "size", registers.store.size(), program.size());
-    let _ = expect_four(&rt, rt.alloc(), &mut registers, &mut copy);
+}
+
+// Changed registers that take over others hold what these hold; so do they after another change, where
+// they restore what was saved of these.
+fn expect_back(
+    rt: &impl Abort,
+    alloc: Global,
+    (registers, row): (&mut Registers, Change),
+    copy: &Registers,
+    wanted: &SavedRegisters,
+) {
+    registers.copy_from(alloc, copy).expect(rt, "memory");
+    expect_likeness(rt, alloc, registers, wanted, ("taken over", true));
+    change(registers, row);
+    registers.restore(alloc, wanted).expect(rt, "memory");
+    expect_likeness(rt, alloc, registers, wanted, ("restored", true));
 }
 
 // A place, and whether it is byte 2 of statement 1.
@@ -418,8 +423,8 @@ const BEGINNINGS: &[(i16, Option<(usize, usize)>)] = &[
 ];
 
 #[test]
-fn places(rt: HostRuntime) -> Result<(), Fail> {
-    let program = program(rt.alloc(), b"20 B=1", b"10 A=1")?;
+fn places(rt: HostRuntime) {
+    let program = program(rt.alloc(), b"20 B=1", b"10 A=1").expect(&rt, "memory");
     for &(statement, after, number, text) in STATEMENTS {
         let place = numbers(place_after(&program, statement));
         let (found, line) = line_at(&program, statement);
@@ -433,7 +438,6 @@ fn places(rt: HostRuntime) -> Result<(), Fail> {
     for &(number, place) in BEGINNINGS {
         expect_same(&rt, "line", numbers(start_of(&program, number)), place);
     }
-    Ok(())
 }
 
 // Where the first command of a program begins: in which statement, and after how many bytes.
@@ -454,13 +458,12 @@ const FIRST_COMMANDS: &[(&str, &[u8], Option<(usize, usize)>)] = &[
 ];
 
 #[test]
-fn first_commands(rt: HostRuntime) -> Result<(), Fail> {
+fn first_commands(rt: HostRuntime) {
     for &(line, other, want) in FIRST_COMMANDS {
-        let program = program(rt.alloc(), line.as_bytes(), other)?;
+        let program = program(rt.alloc(), line.as_bytes(), other).expect(&rt, "memory");
         let found = (numbers(first_place(&program)), first_command(&program));
         expect_same(&rt, line, found, (want, want));
     }
-    Ok(())
 }
 
 #[test]

@@ -5,7 +5,6 @@ use crate::shared::{Doing, Given, NO_ANSWER, fault, lines_of, plain_rules};
 use ptb_command::Stop;
 use ptb_expr::Pause;
 use ptb_machine::Rules;
-use std::test::Fail;
 
 // Each INPUT with its lines, where RND is answered by 1 and 2: how it is done, what is shown, and A.
 const ITEMS: &[(&str, &[&[u8]], Doing, &[u8], i16)] = &[
@@ -52,17 +51,16 @@ const ITEMS: &[(&str, &[&[u8]], Doing, &[u8], i16)] = &[
 ];
 
 #[test]
-fn items(rt: HostRuntime) -> Result<(), Fail> {
+fn items(rt: HostRuntime) {
     for &(text, input, want, shown, a) in ITEMS {
-        let lines = lines_of(rt.alloc(), input)?;
+        let lines = lines_of(rt.alloc(), input).expect(&rt, "memory");
         let given = Given {
             lines: &lines,
             answers: &[1, 2],
             rules: plain_rules(1),
         };
-        expect_command(&rt, rt.alloc(), (text, 0), given, (want, shown, a, 0))?;
+        expect_command(&rt, rt.alloc(), (text, 0), given, (want, shown, a, 0));
     }
-    Ok(())
 }
 
 // Where no line is left: an answer is asked for with a bound of 2, if there is one.
@@ -81,7 +79,7 @@ const ANSWERED: &[(&str, &[i16], Doing, &[u8], i16)] = &[
 ];
 
 #[test]
-fn answers_where_no_line_is_left(rt: HostRuntime) -> Result<(), Fail> {
+fn answers_where_no_line_is_left(rt: HostRuntime) {
     let rules = Rules {
         limit: 1,
         choose: Some(2),
@@ -92,7 +90,6 @@ fn answers_where_no_line_is_left(rt: HostRuntime) -> Result<(), Fail> {
             answers,
             rules,
         };
-        expect_command(&rt, rt.alloc(), (text, 0), given, (want, shown, a, 0))?;
+        expect_command(&rt, rt.alloc(), (text, 0), given, (want, shown, a, 0));
     }
-    Ok(())
 }

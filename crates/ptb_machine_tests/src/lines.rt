@@ -3,7 +3,6 @@
 use crate::shared::{expect_same, lines_of};
 use ptb_devices::{Line, LineSource, Lines};
 use std::process::Abort;
-use std::test::Fail;
 
 // Bytes, and the line that they are cleaned to.
 const CLEANED: &[(&[u8], &[u8])] = &[
@@ -20,26 +19,24 @@ const CLEANED: &[(&[u8], &[u8])] = &[
 ];
 
 #[test]
-fn cleaned_lines(rt: HostRuntime) -> Result<(), Fail> {
+fn cleaned_lines(rt: HostRuntime) {
     for &(bytes, want) in CLEANED {
-        let line = Line::clean(rt.alloc(), bytes)?;
+        let line = Line::clean(rt.alloc(), bytes).expect(&rt, "memory");
         expect_same(&rt, "line", line.bytes(), want);
     }
-    Ok(())
 }
 
 // A byte that is dropped takes no room.
 #[test]
-fn room_for_printable_bytes(rt: HostRuntime) -> Result<(), Fail> {
+fn room_for_printable_bytes(rt: HostRuntime) {
     let mut bytes = [b'A'; 300];
     for at in 0..100 {
         bytes[at] = 1;
     }
     bytes[299] = b'Z';
-    let line = Line::clean(rt.alloc(), &bytes)?;
+    let line = Line::clean(rt.alloc(), &bytes).expect(&rt, "memory");
     let found = (line.bytes().len(), line.bytes().last());
     expect_same(&rt, "line", found, (200, Some(&b'Z')));
-    Ok(())
 }
 
 // How many of three lines are taken, and the next one, if there is one.
@@ -54,8 +51,8 @@ const NEXT: &[(usize, Option<&[u8]>)] = &[
 // The lines are taken one after the other, also those at hand, which are all, and one alone after a
 // jump to it.
 #[test]
-fn lines_in_memory(rt: HostRuntime) -> Result<(), Fail> {
-    let all = lines_of(rt.alloc(), &[b"one", b"", b"three"])?;
+fn lines_in_memory(rt: HostRuntime) {
+    let all = lines_of(rt.alloc(), &[b"one", b"", b"three"]).expect(&rt, "memory");
     let mut lines = Lines::new(&all);
     let mut ready = Lines::new(&all);
     for &(taken, want) in NEXT {
@@ -68,5 +65,4 @@ fn lines_in_memory(rt: HostRuntime) -> Result<(), Fail> {
         expect_same(&rt, "ready line", ready.take_ready(), want);
         expect_same(&rt, "line there", there.next(), Ok(want));
     }
-    Ok(())
 }

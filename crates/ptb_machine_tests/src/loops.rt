@@ -4,9 +4,8 @@ use crate::runs::{alone, ending_of, expect_run};
 use crate::shared::{expect_same, loaded, push_lines};
 use ptb_machine::{Ending, TextScreen};
 use ptb_text::Program;
-use std::alloc::Global;
+use std::alloc::{AllocError, Global};
 use std::process::Abort;
-use std::test::Fail;
 
 // The run of a program ends so and shows this after so many steps, and stops at its limit with one
 // fewer.
@@ -276,17 +275,16 @@ const ENDS: &[(&str, u32, Ending, &[u8])] = &[
 ];
 
 #[test]
-fn commands_in_loops(rt: HostRuntime) -> Result<(), Fail> {
+fn commands_in_loops(rt: HostRuntime) {
     for &(text, steps, want, shown) in ENDS {
-        let program = loaded(rt.alloc(), text.as_bytes())?;
+        let program = loaded(&rt, rt.alloc(), text.as_bytes());
         expect_end(&rt, rt.alloc(), (text, &program), steps, (want, shown));
     }
-    Ok(())
 }
 
 // Four lines, each with so many values of a digit, first of 1, then of 2, and so on: each value has
 // blanks up to the greatest width.
-fn wide_lines(alloc: Global, count: usize) -> Result<Vec<u8>, Fail> {
+fn wide_lines(alloc: Global, count: usize) -> Result<Vec<u8>, AllocError> {
     let mut text = Vec::new(alloc);
     for digit in b'1'..b'5' {
         for _ in 0..count {
@@ -306,39 +304,39 @@ const WIDE_LINES: &[(&str, usize)] = &[
 ];
 
 #[test]
-fn prints_of_long_lines(rt: HostRuntime) -> Result<(), Fail> {
+fn prints_of_long_lines(rt: HostRuntime) {
     for &(text, count) in WIDE_LINES {
-        let shown = wide_lines(rt.alloc(), count)?;
-        let program = loaded(rt.alloc(), text.as_bytes())?;
+        let shown = wide_lines(rt.alloc(), count).expect(&rt, "memory");
+        let program = loaded(&rt, rt.alloc(), text.as_bytes());
         let want = (Ending::End, shown.as_slice());
         expect_end(&rt, rt.alloc(), (text, &program), 9, want);
     }
-    Ok(())
 }
 
 // A statement whose second command is at place 128, after blanks, and one that prints.
-fn long_statement(alloc: Global) -> Result<Program, Fail> {
+fn long_statement(alloc: Global) -> Result<Vec<u8>, AllocError> {
     let mut text = Vec::from_slice(alloc, b"10 A=A+1")?;
     text.resize(3 + 127, b' ')?;
     text.extend_from_slice(b";IF A<5 GOTO 10\n20 P.A\n")?;
-    loaded(alloc, text.as_slice())
+    Ok(text)
 }
 
 // 127 comments between a command and one that goes back to it.
-fn many_statements(alloc: Global) -> Result<Program, Fail> {
+fn many_statements(alloc: Global) -> Result<Vec<u8>, AllocError> {
     let mut text = Vec::from_slice(alloc, b"10 A=A+1;GOTO 5000\n")?;
     push_lines(&mut text, 127, b" REM\n")?;
     text.extend_from_slice(b"5000 IF A<5 GOTO 10\n5010 P.A\n")?;
-    loaded(alloc, text.as_slice())
+    Ok(text)
 }
 
 // A command that begins at a place over 127 is found, and one whose statement is the 129th.
 #[test]
-fn far_commands(rt: HostRuntime) -> Result<(), Fail> {
+fn far_commands(rt: HostRuntime) {
     let want = (Ending::End, b"     5\n".as_slice());
-    let program = long_statement(rt.alloc())?;
+    let text = long_statement(rt.alloc()).expect(&rt, "memory");
+    let program = loaded(&rt, rt.alloc(), text.as_slice());
     expect_end(&rt, rt.alloc(), ("a far place", &program), 15, want);
-    let program = many_statements(rt.alloc())?;
+    let text = many_statements(rt.alloc()).expect(&rt, "memory");
+    let program = loaded(&rt, rt.alloc(), text.as_slice());
     expect_end(&rt, rt.alloc(), ("a far statement", &program), 20, want);
-    Ok(())
 }

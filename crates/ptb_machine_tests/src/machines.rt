@@ -7,9 +7,8 @@ use crate::shared::{expect_same, loaded, plain_rules};
 use ptb_expr::Listed;
 use ptb_machine::{Ending, Lines, Machine, RunFault, SavedMachine, TextScreen};
 use ptb_text::Program;
-use std::alloc::{AllocError, Global};
+use std::alloc::Global;
 use std::process::Abort;
-use std::test::Fail;
 
 // A step without answers and input.
 fn step_of(
@@ -48,17 +47,13 @@ fn expect_steps(
 }
 
 // A machine of a text after these steps.
-fn machine_after(
-    rt: &impl Abort,
-    alloc: Global,
-    (text, rows): (&str, &[Step]),
-) -> Result<Machine, Fail> {
-    let program = loaded(alloc, text.as_bytes())?;
-    let mut machine = Machine::new(alloc, &program)?;
+fn machine_after(rt: &impl Abort, alloc: Global, (text, rows): (&str, &[Step])) -> Machine {
+    let program = loaded(rt, alloc, text.as_bytes());
+    let mut machine = Machine::new(alloc, &program).expect(rt, "memory");
     let mut screen = TextScreen::new(alloc);
     expect_same(rt, text, machine.steps(), 0);
     expect_steps(rt, &mut machine, &program, &mut screen, rows);
-    Ok(machine)
+    machine
 }
 
 const TO_THE_END: &[Step] = &[
@@ -70,9 +65,8 @@ const TO_THE_END: &[Step] = &[
 
 // The steps of a program that prints twice, and one after them.
 #[test]
-fn steps(rt: HostRuntime) -> Result<(), Fail> {
-    machine_after(&rt, rt.alloc(), ("10 P.1,;P.2", TO_THE_END))?;
-    Ok(())
+fn steps(rt: HostRuntime) {
+    machine_after(&rt, rt.alloc(), ("10 P.1,;P.2", TO_THE_END));
 }
 
 const BEFORE_THE_COPY: &[Step] = &[(9, Ok(None), 1, b"")];
@@ -93,24 +87,23 @@ fn expect_taken_over(
     machine: &mut Machine,
     copy: &mut Machine,
     screen: &mut TextScreen,
-) -> Result<(), Fail>
+)
     requires { FitsProgram program.now machine.old }
 {
     expect_steps(rt, machine, program, screen, BEFORE_THE_COPY);
     expect_same(rt, "steps", copy.steps(), 0);
-    copy.copy_from(alloc, machine)?;
+    copy.copy_from(alloc, machine).expect(rt, "memory");
     expect_same(rt, "steps", copy.steps(), 1);
     expect_steps(rt, copy, program, screen, OF_THE_COPY);
     expect_same(rt, "steps", machine.steps(), 1);
-    machine.copy_from(alloc, copy)?;
+    machine.copy_from(alloc, copy).expect(rt, "memory");
     expect_steps(rt, machine, program, screen, AFTER_THE_END);
-    Ok(())
 }
 
 // A machine and its copy do so.
-fn expect_copies(rt: &impl Abort, alloc: Global, program: &Program) -> Result<(), Fail> {
-    let mut machine = Machine::new(alloc, program)?;
-    let mut copy = machine.copy(alloc)?;
+fn expect_copies(rt: &impl Abort, alloc: Global, program: &Program) {
+    let mut machine = Machine::new(alloc, program).expect(rt, "memory");
+    let mut copy = machine.copy(alloc).expect(rt, "memory");
     let mut screen = TextScreen::new(alloc);
     expect_taken_over(rt, alloc, program, &mut machine, &mut copy, &mut screen)
 }
@@ -118,8 +111,8 @@ fn expect_copies(rt: &impl Abort, alloc: Global, program: &Program) -> Result<()
 // A copy continues by itself, also from where it was taken over; one of a machine that is over is
 // over.
 #[test]
-fn copies(rt: HostRuntime) -> Result<(), Fail> {
-    let program = loaded(rt.alloc(), b"10 A=A+1,B=SIZE\n20 P.A")?;
+fn copies(rt: HostRuntime) {
+    let program = loaded(&rt, rt.alloc(), b"10 A=A+1,B=SIZE\n20 P.A");
     expect_copies(&rt, rt.alloc(), &program)
 }
 
@@ -172,10 +165,10 @@ const PAIRS: &[(Played, Played, bool, bool)] = &[
 ];
 
 // What is saved of a machine.
-fn saved(alloc: Global, machine: &Machine) -> Result<SavedMachine, AllocError> {
+fn saved(rt: &impl Abort, alloc: Global, machine: &Machine) -> SavedMachine {
     let mut saved = SavedMachine::new(alloc);
-    saved.save(machine)?;
-    Ok(saved)
+    expect_same(rt, "saved", saved.save(machine), Ok(()));
+    saved
 }
 
 // Whether two machines hold the same, whichever is asked, and whether they have one hash.
@@ -185,15 +178,14 @@ fn expect_likeness(
     one: &Machine,
     other: &Machine,
     (what, same, same_hash): (&str, bool, bool),
-) -> Result<(), AllocError> {
-    let first = saved(alloc, one)?;
-    let second = saved(alloc, other)?;
+) {
+    let first = saved(rt, alloc, one);
+    let second = saved(rt, alloc, other);
     let hash = first.hash() == second.hash();
     let found = (first.is_same(&second), second.is_same(&first), hash);
     expect_same(rt, what, found, (same, same, same_hash));
     let steps = (first.steps(), second.steps());
     expect_same(rt, what, steps, (one.steps(), other.steps()));
-    Ok(())
 }
 
 // A machine holds the same as its copy, as one that takes over what it holds, and as one that is
@@ -204,26 +196,26 @@ fn expect_copied(
     machine: &Machine,
     one: &mut Machine,
     two: &mut Machine,
-) -> Result<(), AllocError> {
-    let copy = machine.copy(alloc)?;
-    expect_likeness(rt, alloc, machine, &copy, ("copy", true, true))?;
-    one.copy_from(alloc, machine)?;
-    expect_likeness(rt, alloc, machine, one, ("copied", true, true))?;
-    two.restore(alloc, &saved(alloc, machine)?)?;
+) {
+    let copy = machine.copy(alloc).expect(rt, "memory");
+    expect_likeness(rt, alloc, machine, &copy, ("copy", true, true));
+    one.copy_from(alloc, machine).expect(rt, "memory");
+    expect_likeness(rt, alloc, machine, one, ("copied", true, true));
+    let saved = saved(rt, alloc, machine);
+    two.restore(alloc, &saved).expect(rt, "memory");
     expect_likeness(rt, alloc, machine, two, ("restored", true, true))
 }
 
 #[test]
-fn same_machines(rt: HostRuntime) -> Result<(), Fail> {
+fn same_machines(rt: HostRuntime) {
     for &(one, other, same, same_hash) in PAIRS {
-        let machine = machine_after(&rt, rt.alloc(), one)?;
-        let mut other = machine_after(&rt, rt.alloc(), other)?;
-        let mut third = other.copy(rt.alloc())?;
+        let machine = machine_after(&rt, rt.alloc(), one);
+        let mut other = machine_after(&rt, rt.alloc(), other);
+        let mut third = other.copy(rt.alloc()).expect(&rt, "memory");
         let want = (one.0, same, same_hash);
-        expect_likeness(&rt, rt.alloc(), &machine, &other, want)?;
-        expect_copied(&rt, rt.alloc(), &machine, &mut other, &mut third)?;
+        expect_likeness(&rt, rt.alloc(), &machine, &other, want);
+        expect_copied(&rt, rt.alloc(), &machine, &mut other, &mut third);
     }
-    Ok(())
 }
 
 // A sum that is done again and again, which shows nothing.
@@ -255,28 +247,22 @@ const PRINT: &[Step] = &[(100, Ok(None), 9, b"\n")];
 
 // A machine of a program that shows nothing fits another one that prints, after eight commands, and
 // then prints.
-fn expect_print(
-    rt: &impl Abort,
-    alloc: Global,
-    counts: &Program,
-    prints: &Program,
-) -> Result<(), Fail>
+fn expect_print(rt: &impl Abort, alloc: Global, counts: &Program, prints: &Program)
     requires counts { IsCounting counts.now }
     requires prints { IsPrinting prints.now }
 {
-    let mut machine = Machine::new(alloc, counts)?;
+    let mut machine = Machine::new(alloc, counts).expect(rt, "memory");
     let mut screen = TextScreen::new(alloc);
     expect_steps(rt, &mut machine, counts, &mut screen, EIGHT);
     fits_prints(&machine, counts, prints);
     expect_steps(rt, &mut machine, prints, &mut screen, PRINT);
-    Ok(())
 }
 
 // A machine has nothing of the program whose commands it did: after four turns of a sum and a jump
 // it fits a program that prints there, and prints.
 #[test]
-fn programs_with_the_same_places(rt: HostRuntime) -> Result<(), Fail> {
-    let counts = loaded(rt.alloc(), COUNTS)?;
-    let prints = loaded(rt.alloc(), PRINTS)?;
+fn programs_with_the_same_places(rt: HostRuntime) {
+    let counts = loaded(&rt, rt.alloc(), COUNTS);
+    let prints = loaded(&rt, rt.alloc(), PRINTS);
     expect_print(&rt, rt.alloc(), &counts, &prints)
 }

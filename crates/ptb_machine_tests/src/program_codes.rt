@@ -123,33 +123,31 @@ const RUNS: &[Row] = &[
 ];
 
 // The commands of a row are done so, whichever entry is the guess.
-fn expect_row(rt: &impl Abort, alloc: Global, row: &Row) -> Result<(), Fail> {
+fn expect_row(rt: &impl Abort, alloc: Global, row: &Row) {
     let &(lines, most, wanted, place, a) = row;
-    let program = program_of(alloc, lines)?;
-    let code = ProgramCode::new(alloc, &program)?;
+    let program = program_of(alloc, lines).expect(rt, "memory");
+    let code = ProgramCode::new(alloc, &program).expect(rt, "memory");
     for guess in [0, 1, 99] {
-        let mut registers = Registers::new(alloc, &program)?;
+        let mut registers = Registers::new(alloc, &program).expect(rt, "memory");
         let done = code.advance(&program, &mut registers, most, guess).done;
         let a_then = registers.store.get(letter(b'A'));
         let found = (guess, done, numbers(registers.place), a_then);
         expect_same(rt, "run", found, (guess, wanted, Some(place), a));
     }
-    Ok(())
 }
 
 #[test]
-fn commands_in_a_row(rt: HostRuntime) -> Result<(), Fail> {
+fn commands_in_a_row(rt: HostRuntime) {
     for row in RUNS {
-        expect_row(&rt, rt.alloc(), row)?;
+        expect_row(&rt, rt.alloc(), row);
     }
-    Ok(())
 }
 
-// A PRINT has an entry of 24 bytes, three operations of 8 bytes and a step of 6, thus 54. So the code
-// of all commands would take more than 110 * 63 * 54 = 374,220 bytes, and that of the first 80
-// statements less than 80 * 64 * 54 = 276,480.
-// 110 of the statements begin with IF A and have 64 commands each.
-fn program_with_much_code(alloc: Global) -> Result<Program, Fail> {
+// A program with 110 statements that begin with IF A and have 64 commands each. A PRINT has an entry of
+// 24 bytes, three operations of 8 bytes and a step of 6, thus 54. So the code of all commands would take
+// more than 110 * 63 * 54 = 374,220 bytes, and that of the first 80 statements less than
+// 80 * 64 * 54 = 276,480.
+fn text_with_much_code(alloc: Global) -> Result<Vec<u8>, AllocError> {
     let mut line = Vec::from_slice(alloc, b" IFA")?;
     for _ in 0..63 {
         line.extend_from_slice(b"P.A;")?;
@@ -159,8 +157,7 @@ fn program_with_much_code(alloc: Global) -> Result<Program, Fail> {
     push_lines(&mut text, 110, line.as_slice())?;
     text.extend_from_slice(b"2000 C=C+1;GOS.2040\n2010 F.I=1TO4;D=D+I;N.I\n")?;
     text.extend_from_slice(b"2020 IF C<3 GOTO 10\n2030 P.B,C,D,E;STOP\n2040 E=E+C;R.\n")?;
-    let mut bytes = text.as_slice();
-    Ok(load(alloc, 32_767, &mut Device::new(&mut bytes))?)
+    Ok(text)
 }
 
 // Whether the command at the beginning of a statement has code.
@@ -172,9 +169,11 @@ fn has_code(code: &ProgramCode, program: &Program, statement: usize) -> bool {
 // The last statements have no code. The program has three rounds: two of 126 commands, and one of 125,
 // which does not jump back, before a PRINT and a STOP.
 #[test]
-fn commands_without_code(rt: HostRuntime) -> Result<(), Fail> {
-    let program = program_with_much_code(rt.alloc())?;
-    let code = ProgramCode::new(rt.alloc(), &program)?;
+fn commands_without_code(rt: HostRuntime) {
+    let text = text_with_much_code(rt.alloc()).expect(&rt, "memory");
+    let mut bytes = text.as_slice();
+    let program = load(rt.alloc(), 32_767, &mut Device::new(&mut bytes)).expect(&rt, "a program");
+    let code = ProgramCode::new(rt.alloc(), &program).expect(&rt, "memory");
     let first = (has_code(&code, &program, 0), has_code(&code, &program, 70));
     let last = (
         has_code(&code, &program, 110),
@@ -185,5 +184,4 @@ fn commands_without_code(rt: HostRuntime) -> Result<(), Fail> {
     let shown = b"     3     3    30     6\n".as_slice();
     let want = (Ending::Stop, shown);
     expect_end(&rt, rt.alloc(), ("much code", &program), 379, want);
-    Ok(())
 }

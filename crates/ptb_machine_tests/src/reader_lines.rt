@@ -6,7 +6,6 @@ use ptb_devices::{LineSource, Lines, ReaderLines, read_lines};
 use ptb_text::{Device, DeviceFault, Read};
 use std::alloc::Global;
 use std::process::Abort;
-use std::test::Fail;
 
 // These lines come from a source. The row says where they are expected.
 fn expect_lines<L: LineSource>(rt: &impl Abort, row: usize, source: &mut L, lines: &[&[u8]]) {
@@ -47,20 +46,15 @@ fn expect_read<R: Read>(
 }
 
 // These lines come from an input in such pieces, one by one and all at once.
-fn expect_input(
-    rt: &impl Abort,
-    alloc: Global,
-    bytes: &[u8],
-    piece: usize,
-    lines: &[&[u8]],
-) -> Result<(), Fail> {
+fn expect_input(rt: &impl Abort, alloc: Global, bytes: &[u8], piece: usize, lines: &[&[u8]]) {
     let mut reader = Device::new(scripted(bytes, piece, false));
     expect_read(rt, piece, &mut reader, lines, None);
-    let all = read_lines(alloc, &mut Device::new(scripted(bytes, piece, false)))?;
+    let all = read_lines(alloc, &mut Device::new(scripted(bytes, piece, false))).expect(
+        rt, "memory",
+    );
     let mut source = Lines::new(&all);
     expect_lines(rt, piece, &mut source, lines);
     expect_end(rt, piece, &mut source, Ok(None));
-    Ok(())
 }
 
 // Each input, and its lines.
@@ -79,13 +73,12 @@ const INPUTS: &[(&[u8], &[&[u8]])] = &[
 ];
 
 #[test]
-fn lines_of_an_input(rt: HostRuntime) -> Result<(), Fail> {
+fn lines_of_an_input(rt: HostRuntime) {
     for &(bytes, lines) in INPUTS {
         for piece in [1, 2, 3, 4096] {
-            expect_input(&rt, rt.alloc(), bytes, piece, lines)?;
+            expect_input(&rt, rt.alloc(), bytes, piece, lines);
         }
     }
-    Ok(())
 }
 
 // A line of 255 bytes, to which longer ones are cut.
@@ -102,17 +95,16 @@ const LONG_INPUTS: &[(&[usize], &[&[u8]])] = &[
 ];
 
 #[test]
-fn long_lines(rt: HostRuntime) -> Result<(), Fail> {
+fn long_lines(rt: HostRuntime) {
     for &(newlines, lines) in LONG_INPUTS {
         let mut bytes = [b'A'; 5000];
         for &at in newlines {
             bytes[at.min(4999)] = b'\n';
         }
         for piece in [1, 299, 4095, 4096, 5000] {
-            expect_input(&rt, rt.alloc(), &bytes, piece, lines)?;
+            expect_input(&rt, rt.alloc(), &bytes, piece, lines);
         }
     }
-    Ok(())
 }
 
 // Inputs before a fault: the lines that come before it, and how often the reader is read.

@@ -3,9 +3,8 @@
 use crate::shared::expect_same;
 use ptb_expr::{Fault, FaultKind};
 use ptb_machine::{TextScreen, report};
-use std::alloc::Global;
+use std::alloc::{AllocError, Global};
 use std::process::Abort;
-use std::test::Fail;
 
 // Reports HOW? on a text of this length; whether it is shown, and the next line is fresh.
 fn is_reported(screen: &mut TextScreen, fresh: bool, length: usize, mark: usize) -> bool {
@@ -19,7 +18,12 @@ fn is_reported(screen: &mut TextScreen, fresh: bool, length: usize, mark: usize)
 }
 
 // What the report is: its front, the text with the mark, and a newline.
-fn report_due(alloc: Global, fresh: bool, length: usize, mark: usize) -> Result<Vec<u8>, Fail> {
+fn report_due(
+    alloc: Global,
+    fresh: bool,
+    length: usize,
+    mark: usize,
+) -> Result<Vec<u8>, AllocError> {
     let front = if fresh { "HOW?\n10 " } else { "\nHOW?\n10 " };
     let mut due = Vec::from_slice(alloc, front.as_bytes())?;
     due.resize(front.len().saturating_add(mark), b'A')?;
@@ -55,10 +59,9 @@ fn expect_report(
 
 // A report is whole, and has its mark, also where the text is longer than that of a statement.
 #[test]
-fn reports(rt: HostRuntime) -> Result<(), Fail> {
+fn reports(rt: HostRuntime) {
     for &row in REPORTS {
-        let due = report_due(rt.alloc(), row.0, row.1, row.2)?;
+        let due = report_due(rt.alloc(), row.0, row.1, row.2).expect(&rt, "memory");
         expect_report(&rt, rt.alloc(), row, due.as_slice());
     }
-    Ok(())
 }

@@ -8,7 +8,6 @@ use ptb_machine::{
 use ptb_text::{Device, Program};
 use std::alloc::Global;
 use std::process::Abort;
-use std::test::Fail;
 
 // The input of a run, its rules, and the answers.
 #[derive(Clone, Copy)]
@@ -128,12 +127,11 @@ const RUNS: &[(&str, Ending, &[u8])] = &[
 ];
 
 #[test]
-fn runs(rt: HostRuntime) -> Result<(), Fail> {
+fn runs(rt: HostRuntime) {
     for &(text, want, shown) in RUNS {
-        let program = loaded(rt.alloc(), text.as_bytes())?;
+        let program = loaded(&rt, rt.alloc(), text.as_bytes());
         expect_run(&rt, rt.alloc(), (text, &program), alone(300), (want, shown));
     }
-    Ok(())
 }
 
 // An input, a limit, and the bound of an answer where no line is left, if there is one.
@@ -347,9 +345,9 @@ fn rules_with(limit: u32, choose: Option<i16>) -> Rules {
 }
 
 #[test]
-fn answers_and_limits(rt: HostRuntime) -> Result<(), Fail> {
+fn answers_and_limits(rt: HostRuntime) {
     for &(text, (input, limit, choose), answers, want, shown) in ANSWERED {
-        let program = loaded(rt.alloc(), text.as_bytes())?;
+        let program = loaded(&rt, rt.alloc(), text.as_bytes());
         let setting = Setting {
             input,
             rules: rules_with(limit, choose),
@@ -357,7 +355,6 @@ fn answers_and_limits(rt: HostRuntime) -> Result<(), Fail> {
         };
         expect_run(&rt, rt.alloc(), (text, &program), setting, (want, shown));
     }
-    Ok(())
 }
 
 // A text, a limit, how its run ends, and at which line the limit stopped it.
@@ -392,13 +389,12 @@ fn end_of(alloc: Global, program: &Program, limit: u32) -> Result<RunEnd, RunFau
 
 // Where the limit stops a run: in the statement in which its next command begins.
 #[test]
-fn stops(rt: HostRuntime) -> Result<(), Fail> {
+fn stops(rt: HostRuntime) {
     for &(text, limit, ending, line) in STOPS {
-        let program = loaded(rt.alloc(), text.as_bytes())?;
+        let program = loaded(&rt, rt.alloc(), text.as_bytes());
         let end = end_of(rt.alloc(), &program, limit);
         expect_same(&rt, text, end, Ok(RunEnd { ending, line }));
     }
-    Ok(())
 }
 
 // How a run ends whose writer takes so many writes; what it takes is kept.
@@ -432,9 +428,9 @@ const WRITES: &[(usize, Result<Ending, RunFault>, &[u8])] = &[
 
 // Each PRINT is one write, and the first write that fails ends the run.
 #[test]
-fn prints_to_a_writer_that_fails(rt: HostRuntime) -> Result<(), Fail> {
+fn prints_to_a_writer_that_fails(rt: HostRuntime) {
     let text = b"10 A=A+1;P.#1,A,'A','B',;IF A<7 GOTO 10";
-    let program = loaded(rt.alloc(), text)?;
+    let program = loaded(&rt, rt.alloc(), text);
     for &(writes, want, shown) in WRITES {
         let mut taken = Vec::new(rt.alloc());
         let ending = ending_with_writes(rt.alloc(), &program, writes, &mut taken);
@@ -445,5 +441,4 @@ fn prints_to_a_writer_that_fails(rt: HostRuntime) -> Result<(), Fail> {
             (writes, want, shown),
         );
     }
-    Ok(())
 }

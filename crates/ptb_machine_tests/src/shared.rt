@@ -1,6 +1,6 @@
 // This file has what several tests use: devices, faults, registers, and values that must be the same.
 
-ghost use Rattle.std.specs.Prelude.{◌≡◌, None, Ok, IfOk, IsTrue};
+ghost use Rattle.std.specs.Prelude.{◌≡◌, None, Ok, IsTrue};
 ghost use Rattle.ptb_text.specs.Statements.{program};
 ghost use Rattle.ptb_text.specs.Words.{is_letter};
 
@@ -14,7 +14,6 @@ use std::fmt::Debug;
 use std::io;
 use std::io::ErrorKind;
 use std::process::Abort;
-use std::test::Fail;
 
 // Two values that must be the same; `what` says of what they are.
 pub(crate) fn expect_same<T: Copy + PartialEq + Debug>(
@@ -150,18 +149,23 @@ pub(crate) fn numbers(place: Option<Location>) -> Option<(usize, usize)> {
 
 // The program of a line and a STOP, and registers at its beginning with an array of 27 elements,
 // where A holds this.
-pub(crate) fn with_line(alloc: Global, line: &str, a: i16) -> Result<(Program, Registers), Fail> {
+pub(crate) fn with_line(
+    rt: &impl Abort,
+    alloc: Global,
+    line: &str,
+    a: i16,
+) -> (Program, Registers) {
     let mut program = Program::new(alloc, MEMORY);
-    program.enter(line.as_bytes())?;
-    program.enter(b"20 STOP")?;
-    let mut store = Store::new(alloc, 54)?;
+    program.enter(line.as_bytes()).expect(rt, "a line");
+    program.enter(b"20 STOP").expect(rt, "a line");
+    let mut store = Store::new(alloc, 54).expect(rt, "memory");
     store.set(letter(b'A'), a);
     let registers = Registers {
         place: first_place(&program),
         store,
         stack: Stack::new(),
     };
-    Ok((program, registers))
+    (program, registers)
 }
 
 // What a command is done with.
@@ -226,15 +230,15 @@ pub(crate) fn plain_rules(limit: u32) -> Rules
 }
 
 // The program of a text.
-pub(crate) fn loaded(alloc: Global, text: &[u8]) -> Result<Program, Fail>
-    ensures { IfOk result (λ p. program 4096 text.now ≡ Ok p.lines) }
+pub(crate) fn loaded(rt: &impl Abort, alloc: Global, text: &[u8]) -> Program
+    ensures { program 4096 text.now ≡ Ok result.lines }
 {
     let mut text = text;
-    Ok(load(alloc, MEMORY, &mut Device::new(&mut text))?)
+    load(alloc, MEMORY, &mut Device::new(&mut text)).expect(rt, "a program")
 }
 
 // So many lines with the same text, numbered from 1000 on.
-pub(crate) fn push_lines(program: &mut Vec<u8>, count: u8, text: &[u8]) -> Result<(), Fail> {
+pub(crate) fn push_lines(program: &mut Vec<u8>, count: u8, text: &[u8]) -> Result<(), AllocError> {
     for n in 0..count {
         let hundreds = (n / 100).wrapping_add(b'0');
         let tens = (n / 10 % 10).wrapping_add(b'0');

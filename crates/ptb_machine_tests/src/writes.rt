@@ -7,7 +7,6 @@ use crate::shared::{
 use ptb_command::{Output, PENDING_LIMIT, PendingOutput, Registers, Stop};
 use ptb_devices::{Line, WriterScreen};
 use ptb_text::{Device, Program};
-use std::test::Fail;
 
 // The lines of the input, the answers, and how many writes the writer takes.
 type Taken = (&'static [&'static [u8]], &'static [i16], usize);
@@ -243,11 +242,11 @@ fn written(
 }
 
 #[test]
-fn writes(rt: HostRuntime) -> Result<(), Fail> {
+fn writes(rt: HostRuntime) {
     let mut output = Output::new();
     for &(line, (input, answers, writes), want, (begins, ends, count), left) in WRITES {
-        let lines = lines_of(rt.alloc(), input)?;
-        let (program, mut registers) = with_line(rt.alloc(), line, 0)?;
+        let lines = lines_of(rt.alloc(), input).expect(&rt, "memory");
+        let (program, mut registers) = with_line(&rt, rt.alloc(), line, 0);
         let mut taken = Vec::new(rt.alloc());
         let given = Given {
             lines: &lines,
@@ -265,7 +264,6 @@ fn writes(rt: HostRuntime) -> Result<(), Fail> {
         );
         expect_same(&rt, line, found, (true, true, count));
     }
-    Ok(())
 }
 
 // Bytes after so many that were gathered: whether there is room for them, and how many bytes are
