@@ -8,36 +8,4 @@
 #![tactic(auto)]
 
 #[cfg(test)]
-mod allowances;
-#[cfg(test)]
-mod assignments;
-#[cfg(test)]
-mod commands;
-#[cfg(test)]
-mod input;
-#[cfg(test)]
-mod lines;
-#[cfg(test)]
-mod loops;
-#[cfg(test)]
-mod machines;
-#[cfg(test)]
-mod players;
-#[cfg(test)]
-mod program_codes;
-#[cfg(test)]
-mod reader_lines;
-#[cfg(test)]
-mod reports;
-#[cfg(test)]
-mod runs;
-#[cfg(test)]
-mod screens;
-#[cfg(test)]
-mod shared;
-#[cfg(test)]
-mod stack;
-#[cfg(test)]
-mod translations;
-#[cfg(test)]
-mod writes;
+mod tests;

@@ -1,6 +1,6 @@
 // This file tests reports of faults, also on texts that are longer than those of statements.
 
-use crate::shared::expect_same;
+use crate::tests::shared::expect_eq;
 use ptb_expr::{Fault, FaultKind};
 use ptb_machine::{TextScreen, report};
 use std::alloc::{AllocError, Global};
@@ -45,23 +45,18 @@ const REPORTS: &[(bool, usize, usize)] = &[
 ];
 
 // A report of HOW? is this one.
-fn expect_report(
-    rt: &impl Abort,
-    alloc: Global,
-    (fresh, length, mark): (bool, usize, usize),
-    due: &[u8],
-) {
+fn expect_report(rt: &impl Abort, alloc: Global, (fresh, length, mark): (bool, usize, usize)) {
+    let due = report_due(alloc, fresh, length, mark).expect(rt, "memory");
     let mut screen = TextScreen::new(alloc);
     let is_reported = is_reported(&mut screen, fresh, length, mark);
     let found = (is_reported, screen.bytes());
-    expect_same(rt, "a report", found, (true, due));
+    expect_eq(rt, "a report", found, (true, due.as_slice()));
 }
 
 // A report is whole, and has its mark, also where the text is longer than that of a statement.
 #[test]
 fn reports(rt: HostRuntime) {
     for &row in REPORTS {
-        let due = report_due(rt.alloc(), row.0, row.1, row.2).expect(&rt, "memory");
-        expect_report(&rt, rt.alloc(), row, due.as_slice());
+        expect_report(&rt, rt.alloc(), row);
     }
 }

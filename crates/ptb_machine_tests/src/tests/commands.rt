@@ -1,8 +1,8 @@
 // This file tests what each command does, and where a run is.
 
-use crate::shared::{
-    Doing, Given, MEMORY, NO_ANSWER, doing, done, expect_same, fault, letter, lines_of, numbers,
-    plain_rules, with_line,
+use crate::tests::shared::{
+    ALIKE, Doing, Likeness, MEMORY, NO_ANSWER, Offer, UNLIKE, compared, doing, done, expect_eq,
+    fault, letter, lines_of, nothing, numbers, with_line,
 };
 use ptb_command::{
     Location, OpenLoop, Output, Registers, SavedRegisters, Stack, Stop, first_place, is_zero,
@@ -33,7 +33,7 @@ fn program_or_refusal(
     match program(alloc, first, second) {
         Ok(program) => Some(program),
         Err(fault) => {
-            expect_same(rt, "fault", fault, LoadFault::Memory);
+            expect_eq(rt, "fault", fault, LoadFault::Memory);
             None
         }
     }
@@ -75,36 +75,37 @@ fn is_fresh(shown: &[u8]) -> bool {
     matches!(shown.last(), None | Some(b'\n'))
 }
 
-// A command, where A holds this, has this effect. One that stops leaves the place as it was.
-pub(crate) fn expect_command(
+// This was done with registers, shown and stored. A command that stops leaves the place as it was.
+fn expect_effect(
     rt: &impl Abort,
-    alloc: Global,
-    (line, a): (&str, i16),
-    given: Given<'_>,
-    (want, shown, a_then, element): Effect<'_>,
+    line: &str,
+    (done, fresh): (Result<(), Stop>, bool),
+    (registers, screen): (&Registers, &TextScreen),
+    (want, shown, a, element): Effect<'_>,
 ) {
-    let (program, mut registers) = with_line(rt, alloc, line, a);
-    let mut screen = TextScreen::new(alloc);
-    let (result, fresh) = done(
-        &program,
-        &mut registers,
-        given,
-        &mut screen,
-        &mut Output::new(),
-    );
-    let stays = result.is_ok() || numbers(registers.place) == Some((0, 0));
-    let effect = (doing(result, &registers), screen.bytes());
+    let stays = done.is_ok() || numbers(registers.place) == Some((0, 0));
+    let effect = (doing(done, registers), screen.bytes(), stays, fresh);
+    expect_eq(rt, line, effect, (want, shown, true, is_fresh(shown)));
     let stored = (
         registers.store.get(letter(b'A')),
         registers.store.element(3),
     );
-    expect_same(
-        rt,
-        line,
-        (effect, stays, fresh),
-        ((want, shown), true, is_fresh(shown)),
-    );
-    expect_same(rt, line, stored, (a_then, Ok(element)));
+    expect_eq(rt, line, stored, (a, Ok(element)));
+}
+
+// A command, where A holds this, has this effect.
+pub(crate) fn expect_command(
+    rt: &impl Abort,
+    alloc: Global,
+    (line, a): (&str, i16),
+    offer: Offer<'_>,
+    want: Effect<'_>,
+) {
+    let (program, mut registers) = with_line(rt, alloc, line, a);
+    let mut screen = TextScreen::new(alloc);
+    let mut output = Output::new();
+    let result = done(&program, &mut registers, offer, &mut screen, &mut output);
+    expect_effect(rt, line, result, (&registers, &screen), want);
 }
 
 // Commands that open and close nothing, where A is 1, with a line and an answer: what is done and
@@ -144,71 +145,71 @@ const COMMANDS: &[(&str, Doing, &[u8], i16)] = &[
 #[test]
 fn commands(rt: HostRuntime) {
     let lines = lines_of(rt.alloc(), &[b"5"]).expect(&rt, "memory");
-    let given = Given {
+    let offer = Offer {
         lines: &lines,
         answers: &[4],
-        rules: plain_rules(1),
+        choose: None,
     };
     for &(line, want, shown, a) in COMMANDS {
-        expect_command(&rt, rt.alloc(), (line, 1), given, (want, shown, a, 0));
+        expect_command(&rt, rt.alloc(), (line, 1), offer, (want, shown, a, 0));
     }
 }
 
-// Commands that open or close, where A and B are 0: what is open before, what is done, A, to where
-// the newest call returns, and how many are open below it, or without a call.
-const LOOPS_AND_CALLS: &[(&str, &[u8], Doing, i16, Option<(usize, usize)>, usize)] = &[
-    ("10 GOSUB 20;P.1", b"", Ok((1, 0)), 0, Some((0, 9)), 0),
-    ("10 GOSUB 30", b"", fault!(How, 8), 0, None, 0),
-    ("10 RETURN", b"(A", Ok((1, 2)), 0, None, 0),
-    ("10 RETURN", b"A", fault!(What, 6), 0, None, 1),
-    ("10 FOR A=3 TO 5;P.1", b"", Ok((0, 13)), 3, None, 1),
-    ("10 FOR A=3 S.2", b"", fault!(What, 8), 3, None, 0),
+// What a command does, and A; to where the newest call returns then, and how many are open below it, or
+// without a call.
+type Left = (Doing, i16, Option<(usize, usize)>, usize);
+
+// Commands that open or close, where A and B are 0: what is open before, and what is left.
+const LOOPS_AND_CALLS: &[(&str, &[u8], Left)] = &[
+    ("10 GOSUB 20;P.1", b"", (Ok((1, 0)), 0, Some((0, 9)), 0)),
+    ("10 GOSUB 30", b"", (fault!(How, 8), 0, None, 0)),
+    ("10 RETURN", b"(A", (Ok((1, 2)), 0, None, 0)),
+    ("10 RETURN", b"A", (fault!(What, 6), 0, None, 1)),
+    ("10 FOR A=3 TO 5;P.1", b"", (Ok((0, 13)), 3, None, 1)),
+    ("10 FOR A=3 S.2", b"", (fault!(What, 8), 3, None, 0)),
     // the first value is stored before the limit and the step are evaluated
-    ("10 FOR A=3 TO 1/0", b"", fault!(How, 14), 3, None, 0),
-    ("10 F.A=A+1TO 9S.A/0", b"", fault!(How, 16), 1, None, 0),
-    ("10 F.A=2TO A,", b"", fault!(What, 9), 2, None, 0),
-    ("10 F.A=1/0TO 9", b"", fault!(How, 7), 0, None, 0),
-    ("10 NEXT A", b"A", Ok((1, 2)), 1, None, 1),
-    ("10 NEXT A", b"AB", Ok((1, 2)), 1, None, 1),
-    ("10 NEXT B;P.1", b"AB", Ok((0, 7)), 0, None, 1),
-    ("10 NEXT A", b"A(", fault!(What, 6), 0, Some((1, 2)), 1),
+    ("10 FOR A=3 TO 1/0", b"", (fault!(How, 14), 3, None, 0)),
+    ("10 F.A=A+1TO 9S.A/0", b"", (fault!(How, 16), 1, None, 0)),
+    ("10 F.A=2TO A,", b"", (fault!(What, 9), 2, None, 0)),
+    ("10 F.A=1/0TO 9", b"", (fault!(How, 7), 0, None, 0)),
+    ("10 NEXT A", b"A", (Ok((1, 2)), 1, None, 1)),
+    ("10 NEXT A", b"AB", (Ok((1, 2)), 1, None, 1)),
+    ("10 NEXT B;P.1", b"AB", (Ok((0, 7)), 0, None, 1)),
+    ("10 NEXT A", b"A(", (fault!(What, 6), 0, Some((1, 2)), 1)),
 ];
 
-// What commands are done with that neither read nor ask.
-fn nothing() -> Given<'static> {
-    Given {
-        lines: &[],
-        answers: &[],
-        rules: plain_rules(1),
+// Does the first command of a program, which neither reads nor asks nor shows anything: what it does,
+// and A.
+fn quiet(alloc: Global, program: &Program, registers: &mut Registers) -> (Result<(), Stop>, i16) {
+    let mut screen = TextScreen::new(alloc);
+    let mut output = Output::new();
+    let (result, _) = done(program, registers, nothing(), &mut screen, &mut output);
+    (result, registers.store.get(letter(b'A')))
+}
+
+// Opens what these bytes stand for.
+fn expect_opened(rt: &impl Abort, stack: &mut Stack, bytes: &[u8]) {
+    for &byte in bytes {
+        expect_eq(rt, "opened", open(stack, byte), true);
     }
+}
+
+// A command that opens or closes leaves this. One that stops leaves the place as it was.
+fn expect_left(rt: &impl Abort, alloc: Global, line: &str, before: &[u8], want: Left) {
+    let (program, mut registers) = with_line(rt, alloc, line, 0);
+    expect_opened(rt, &mut registers.stack, before);
+    let (result, a) = quiet(alloc, &program, &mut registers);
+    let stays = result.is_ok() || numbers(registers.place) == Some((0, 0));
+    let doing = doing(result, &registers);
+    let call = numbers(registers.stack.close_call());
+    let left = (doing, a, call, closed(&mut registers.stack));
+    expect_eq(rt, line, (left, stays), (want, true));
 }
 
 #[test]
 fn loops_and_calls(rt: HostRuntime) {
-    for &(line, before, want, a, back, left) in LOOPS_AND_CALLS {
-        let (program, mut registers) = with_line(&rt, rt.alloc(), line, 0);
-        for &byte in before {
-            expect_same(&rt, line, open(&mut registers.stack, byte), true);
-        }
-        let mut screen = TextScreen::new(rt.alloc());
-        let mut output = Output::new();
-        let (result, _) = done(
-            &program,
-            &mut registers,
-            nothing(),
-            &mut screen,
-            &mut output,
-        );
-        let stays = result.is_ok() || numbers(registers.place) == Some((0, 0));
-        let done = (doing(result, &registers), registers.store.get(letter(b'A')));
-        let call = numbers(registers.stack.close_call());
-        let open = (call, closed(&mut registers.stack));
-        expect_same(
-            &rt,
-            line,
-            (done, open, stays),
-            ((want, a), (back, left), true),
-        );
+    for &(line, before, want) in LOOPS_AND_CALLS {
+        expect_left(&rt, rt.alloc(), line, before, want);
     }
 }
 
@@ -220,23 +221,24 @@ const TURNS: &[(Result<(), Stop>, (usize, usize), i16)] = &[
     (fault!(What, 6), (0, 7), 2),
 ];
 
+// A command of registers is done so.
+fn expect_turn(
+    rt: &impl Abort,
+    alloc: Global,
+    (program, registers): (&Program, &mut Registers),
+    (want, place, a): (Result<(), Stop>, (usize, usize), i16),
+) {
+    let (result, a_then) = quiet(alloc, program, registers);
+    let found = (result, numbers(registers.place), a_then);
+    expect_eq(rt, "turn", found, (want, Some(place), a));
+}
+
 #[test]
 fn turns(rt: HostRuntime) {
     let (program, mut registers) = with_line(&rt, rt.alloc(), "10 NEXT A;P.1", 0);
-    let mut screen = TextScreen::new(rt.alloc());
-    let mut output = Output::new();
-    expect_same(&rt, "loop", open(&mut registers.stack, b'A'), true);
-    for &(want, place, a) in TURNS {
-        let (result, _) = done(
-            &program,
-            &mut registers,
-            nothing(),
-            &mut screen,
-            &mut output,
-        );
-        let place_then = numbers(registers.place);
-        let found = (result, place_then, registers.store.get(letter(b'A')));
-        expect_same(&rt, "turn", found, (want, Some(place), a));
+    expect_opened(&rt, &mut registers.stack, b"A");
+    for &row in TURNS {
+        expect_turn(&rt, rt.alloc(), (&program, &mut registers), row);
     }
 }
 
@@ -264,8 +266,8 @@ fn expect_first(rt: &impl Abort, registers: &Registers, size: i16) {
         store.size(),
         stack.is_empty(),
     );
-    expect_same(rt, "registers", found, (Some((0, 0)), 0, size, true));
-    expect_same(rt, "element", store.element(2), Ok(0));
+    expect_eq(rt, "registers", found, (Some((0, 0)), 0, size, true));
+    expect_eq(rt, "element", store.element(2), Ok(0));
 }
 
 // Registers of a program, where A is 7 and a call is open.
@@ -276,11 +278,12 @@ fn registers_with_a_call(
 ) -> Result<Registers, AllocError> {
     let mut registers = Registers::new(alloc, program)?;
     registers.store.set(letter(b'A'), 7);
-    expect_same(rt, "call", open(&mut registers.stack, b'('), true);
+    expect_opened(rt, &mut registers.stack, b"(");
     Ok(registers)
 }
 
-// Registers take over a copy with an array of size 4 and another A, or hold what they held.
+// Registers take over a copy without a place. They take over one with an array of size 4 and another A,
+// or hold what they held.
 fn expect_taken_over(
     rt: &impl Abort,
     alloc: Global,
@@ -289,14 +292,17 @@ fn expect_taken_over(
     let size = registers.store.size();
     let mut copy = registers.copy(alloc)?;
     let found = (copy.store.get(letter(b'A')), copy.store.size());
-    expect_same(rt, "copy", found, (7, size));
+    expect_eq(rt, "copy", found, (7, size));
+    copy.place = None;
+    expect_eq(rt, "copied", registers.copy_from(alloc, &copy), Ok(()));
+    expect_eq(rt, "place", numbers(registers.place), None);
     copy.store = Store::new(alloc, 4)?;
     let wanted = match registers.copy_from(alloc, &copy) {
         Ok(()) => (0, 4),
         Err(AllocError) => (7, size),
     };
     let found = (registers.store.get(letter(b'A')), registers.store.size());
-    expect_same(rt, "store", found, wanted);
+    expect_eq(rt, "store", found, wanted);
     Ok(())
 }
 
@@ -305,31 +311,18 @@ fn expect_taken_over(
 fn copied_registers(rt: HostRuntime) {
     if let Some(program) = program_or_refusal(&rt, rt.alloc(), b"10 A=1", b"") {
         if let Ok(mut registers) = registers_with_a_call(&rt, rt.alloc(), &program) {
-            expect_same(&rt, "size", registers.store.size(), program.size());
+            expect_eq(&rt, "size", registers.store.size(), program.size());
             let _ = expect_taken_over(&rt, rt.alloc(), &mut registers);
         }
     }
 }
 
-// What is saved of registers.
-fn saved(rt: &impl Abort, alloc: Global, registers: &Registers) -> SavedRegisters {
-    let mut saved = SavedRegisters::new(alloc);
-    expect_same(rt, "saved", saved.save(registers), Ok(()));
-    saved
-}
-
-// Whether registers hold what was saved, whichever is asked, and have its hash.
-fn expect_likeness(
-    rt: &impl Abort,
-    alloc: Global,
-    registers: &Registers,
-    wanted: &SavedRegisters,
-    (what, same): (&str, bool),
-) {
-    let found = saved(rt, alloc, registers);
-    let hash = found.hash() == wanted.hash();
-    let likeness = (found.is_same(wanted), wanted.is_same(&found), hash);
-    expect_same(rt, what, likeness, (same, same, same));
+// Whether two of them hold the same.
+fn likeness(alloc: Global, one: &Registers, other: &Registers) -> Likeness {
+    let (mut first, mut second) = (SavedRegisters::new(alloc), SavedRegisters::new(alloc));
+    first.save(one)?;
+    second.save(other)?;
+    compared!(first, second)
 }
 
 // What is changed in registers at the first place, where A is 7 and a call is open: their place, A,
@@ -337,13 +330,13 @@ fn expect_likeness(
 type Change = (Option<(usize, usize)>, i16, bool);
 
 // Each change, and whether the registers hold the same after it.
-const CHANGES: &[(&str, Change, bool)] = &[
-    ("nothing", (Some((0, 0)), 7, false), true),
-    ("no place", (None, 7, false), false),
-    ("another place", (Some((0, 1)), 7, false), false),
-    ("another value", (Some((0, 0)), 8, false), false),
-    ("a loop", (Some((0, 0)), 7, true), false),
-    ("all of these", (None, 8, true), false),
+const CHANGES: &[(&str, Change, Likeness)] = &[
+    ("nothing", (Some((0, 0)), 7, false), ALIKE),
+    ("no place", (None, 7, false), UNLIKE),
+    ("another place", (Some((0, 1)), 7, false), UNLIKE),
+    ("another value", (Some((0, 0)), 8, false), UNLIKE),
+    ("a loop", (Some((0, 0)), 7, true), UNLIKE),
+    ("all of these", (None, 8, true), UNLIKE),
 ];
 
 // Changes registers.
@@ -358,36 +351,46 @@ fn change(registers: &mut Registers, (place, a, opens): Change) {
     }
 }
 
-// A copy of registers is the same. Changed registers hold what the copy holds where they take it over,
-// and also where they restore what was saved of it.
+// A copy of registers is the same, also of those that take it over or restore what was saved of it.
 #[test]
 fn same_registers(rt: HostRuntime) {
     let program = program(rt.alloc(), b"10 A=1", b"").expect(&rt, "a program");
     let copy = registers_with_a_call(&rt, rt.alloc(), &program).expect(&rt, "memory");
-    let wanted = saved(&rt, rt.alloc(), &copy);
     let mut registers = copy.copy(rt.alloc()).expect(&rt, "memory");
-    for &(what, row, same) in CHANGES {
-        expect_likeness(&rt, rt.alloc(), &registers, &wanted, ("copy", true));
-        change(&mut registers, row);
-        expect_likeness(&rt, rt.alloc(), &registers, &wanted, (what, same));
-        expect_back(&rt, rt.alloc(), (&mut registers, row), &copy, &wanted);
+    for &row in CHANGES {
+        expect_changed(&rt, rt.alloc(), &mut registers, &copy, row);
+        expect_restored(&rt, rt.alloc(), &mut registers, &copy, row.1);
     }
 }
 
-// Changed registers that take over others hold what these hold; so do they after another change, where
-// they restore what was saved of these.
-fn expect_back(
+// Registers hold what their copy holds, and after a change just so. Then they take over the copy.
+fn expect_changed(
     rt: &impl Abort,
     alloc: Global,
-    (registers, row): (&mut Registers, Change),
+    registers: &mut Registers,
     copy: &Registers,
-    wanted: &SavedRegisters,
+    (what, row, want): (&str, Change, Likeness),
 ) {
-    registers.copy_from(alloc, copy).expect(rt, "memory");
-    expect_likeness(rt, alloc, registers, wanted, ("taken over", true));
+    expect_eq(rt, "copy", likeness(alloc, registers, copy), ALIKE);
     change(registers, row);
-    registers.restore(alloc, wanted).expect(rt, "memory");
-    expect_likeness(rt, alloc, registers, wanted, ("restored", true));
+    expect_eq(rt, what, likeness(alloc, registers, copy), want);
+    registers.copy_from(alloc, copy).expect(rt, "memory");
+    expect_eq(rt, "taken over", likeness(alloc, registers, copy), ALIKE);
+}
+
+// Changed registers hold what a copy holds where they restore what was saved of it.
+fn expect_restored(
+    rt: &impl Abort,
+    alloc: Global,
+    registers: &mut Registers,
+    copy: &Registers,
+    row: Change,
+) {
+    change(registers, row);
+    let mut saved = SavedRegisters::new(alloc);
+    saved.save(copy).expect(rt, "memory");
+    registers.restore(alloc, &saved).expect(rt, "memory");
+    expect_eq(rt, "restored", likeness(alloc, registers, copy), ALIKE);
 }
 
 // A place, and whether it is byte 2 of statement 1.
@@ -401,8 +404,8 @@ fn same_places(rt: HostRuntime) {
     };
     for &(statement, at, same) in PLACES {
         let other = Location { statement, at };
-        expect_same(&rt, "same", place.is_same(other), same);
-        expect_same(&rt, "hash", place.hash() == other.hash(), same);
+        expect_eq(&rt, "same", place.is_same(other), same);
+        expect_eq(&rt, "hash", place.hash() == other.hash(), same);
     }
 }
 
@@ -428,7 +431,7 @@ fn places(rt: HostRuntime) {
     for &(statement, after, number, text) in STATEMENTS {
         let place = numbers(place_after(&program, statement));
         let (found, line) = line_at(&program, statement);
-        expect_same(
+        expect_eq(
             &rt,
             "statement",
             (place, found, line),
@@ -436,7 +439,7 @@ fn places(rt: HostRuntime) {
         );
     }
     for &(number, place) in BEGINNINGS {
-        expect_same(&rt, "line", numbers(start_of(&program, number)), place);
+        expect_eq(&rt, "line", numbers(start_of(&program, number)), place);
     }
 }
 
@@ -450,25 +453,32 @@ fn first_command(program: &Program) -> Option<(usize, usize)> {
 }
 
 // Two lines, the first place of their program, and where its first command begins.
-const FIRST_COMMANDS: &[(&str, &[u8], Option<(usize, usize)>)] = &[
+type FirstCommand = (&'static str, &'static [u8], Option<(usize, usize)>);
+
+const FIRST_COMMANDS: &[FirstCommand] = &[
     ("", b"", None),
     ("10 P.1", b"", Some((0, 0))),
     ("10 ;P.1", b"", Some((0, 0))),
     ("20 B=1", b"10 A=1", Some((0, 0))),
 ];
 
+// The first command of a program is there.
+fn expect_first_command(rt: &impl Abort, alloc: Global, (line, other, want): FirstCommand) {
+    let program = program(alloc, line.as_bytes(), other).expect(rt, "memory");
+    let found = (numbers(first_place(&program)), first_command(&program));
+    expect_eq(rt, line, found, (want, want));
+}
+
 #[test]
 fn first_commands(rt: HostRuntime) {
-    for &(line, other, want) in FIRST_COMMANDS {
-        let program = program(rt.alloc(), line.as_bytes(), other).expect(&rt, "memory");
-        let found = (numbers(first_place(&program)), first_command(&program));
-        expect_same(&rt, line, found, (want, want));
+    for &row in FIRST_COMMANDS {
+        expect_first_command(&rt, rt.alloc(), row);
     }
 }
 
 #[test]
 fn zeros(rt: HostRuntime) {
-    expect_same(
+    expect_eq(
         &rt,
         "zeros of 0, 1 and -1",
         (is_zero(0), is_zero(1), is_zero(-1)),
@@ -492,6 +502,6 @@ fn freshness(rt: HostRuntime) {
         let mut fresh = before;
         let is_shown = put(&mut screen, &mut fresh, text.as_bytes()).is_ok();
         let found = (is_shown, screen.bytes(), fresh);
-        expect_same(&rt, text, found, (true, text.as_bytes(), after));
+        expect_eq(&rt, text, found, (true, text.as_bytes(), after));
     }
 }

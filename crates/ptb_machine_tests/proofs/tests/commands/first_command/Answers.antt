@@ -1,6 +1,6 @@
 -- This file answers what is left to prove of `first_command`.
 use Rattle.ptb_code.specs.State.{first_place}
-use Rattle.ptb_machine_tests.proofs.commands.first_command.Goals as goal
+use Rattle.ptb_machine_tests.proofs.tests.commands.first_command.Goals as goal
 
 pub next_command-requires : goal.next_command-requires
 next_command-requires c = record { place = first_place c.args.program.now.lines; are = c.first_place-place.ensures }

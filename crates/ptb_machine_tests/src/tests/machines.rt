@@ -3,7 +3,9 @@
 ghost use Rattle.ptb_machine.specs.Steps.{FitsProgram};
 ghost use Rattle.ptb_machine_tests.specs.Programs.{IsCounting, IsPrinting};
 
-use crate::shared::{expect_same, loaded, plain_rules};
+use crate::tests::shared::{
+    ALIKE, Likeness, SAME_HASH, UNLIKE, compared, expect_eq, loaded, plain_rules, table,
+};
 use ptb_expr::Listed;
 use ptb_machine::{Ending, Lines, Machine, RunFault, SavedMachine, TextScreen};
 use ptb_text::Program;
@@ -42,7 +44,7 @@ fn expect_steps(
     'rows: for &(limit, want, steps, shown) in rows {
         let result = step_of(machine, program, limit, screen);
         let found = (result, machine.steps(), screen.bytes());
-        expect_same(rt, "a step", found, (want, steps, shown));
+        expect_eq(rt, "a step", found, (want, steps, shown));
     }
 }
 
@@ -51,7 +53,7 @@ fn machine_after(rt: &impl Abort, alloc: Global, (text, rows): (&str, &[Step])) 
     let program = loaded(rt, alloc, text.as_bytes());
     let mut machine = Machine::new(alloc, &program).expect(rt, "memory");
     let mut screen = TextScreen::new(alloc);
-    expect_same(rt, text, machine.steps(), 0);
+    expect_eq(rt, text, machine.steps(), 0);
     expect_steps(rt, &mut machine, &program, &mut screen, rows);
     machine
 }
@@ -91,11 +93,11 @@ fn expect_taken_over(
     requires { FitsProgram program.now machine.old }
 {
     expect_steps(rt, machine, program, screen, BEFORE_THE_COPY);
-    expect_same(rt, "steps", copy.steps(), 0);
+    expect_eq(rt, "steps", copy.steps(), 0);
     copy.copy_from(alloc, machine).expect(rt, "memory");
-    expect_same(rt, "steps", copy.steps(), 1);
+    expect_eq(rt, "steps", copy.steps(), 1);
     expect_steps(rt, copy, program, screen, OF_THE_COPY);
-    expect_same(rt, "steps", machine.steps(), 1);
+    expect_eq(rt, "steps", machine.steps(), 1);
     machine.copy_from(alloc, copy).expect(rt, "memory");
     expect_steps(rt, machine, program, screen, AFTER_THE_END);
 }
@@ -131,90 +133,57 @@ const LIMIT: &[Step] = &[(0, Ok(Some(Ending::Limit)), 0, b"")];
 // A text, and the steps of its machine.
 type Played = (&'static str, &'static [Step]);
 
-// Two machines, whether they hold the same, and whether they have one hash. They differ in a value, in
-// what was shown last, a byte or a newline, in how many commands were begun, and in whether the run is
+// Two machines, and how alike they are. They differ in a value, in what was shown last, a byte or a newline, in how many commands were begun, and in whether the run is
 // over. The hash leaves the last two out.
-const PAIRS: &[(Played, Played, bool, bool)] = &[
-    (
-        ("10 A=1;GOTO 10", QUIET),
-        ("10 A=1;GOTO 10", QUIET),
-        true,
-        true,
-    ),
-    (
-        ("10 A=1;GOTO 10", QUIET),
-        ("10 A=2;GOTO 10", QUIET),
-        false,
-        false,
-    ),
-    (
-        ("10 P.11;GOTO 10", ELEVEN),
-        ("10 P.22;GOTO 10", TWENTY_TWO),
-        true,
-        true,
-    ),
-    (
-        ("10 P.11;GOTO 10", ELEVEN),
-        ("10 P.1,;GOTO 10", ONE),
-        false,
-        false,
-    ),
-    (("10 GOTO 10", &[]), ("10 GOTO 10", &[]), true, true),
-    (("10 GOTO 10", &[]), ("10 GOTO 10", JUMP), false, true),
-    (("10 GOTO 10", &[]), ("10 GOTO 10", LIMIT), false, true),
-];
+const PAIRS: &[(Played, Played, Likeness)] = table! {
+    (("10 A=1;GOTO 10", QUIET), ("10 A=1;GOTO 10", QUIET), ALIKE),
+    (("10 A=1;GOTO 10", QUIET), ("10 A=2;GOTO 10", QUIET), UNLIKE),
+    (("10 P.11;GOTO 10", ELEVEN), ("10 P.22;GOTO 10", TWENTY_TWO), ALIKE),
+    (("10 P.11;GOTO 10", ELEVEN), ("10 P.1,;GOTO 10", ONE), UNLIKE),
+    (("10 GOTO 10", &[]), ("10 GOTO 10", &[]), ALIKE),
+    (("10 GOTO 10", &[]), ("10 GOTO 10", JUMP), SAME_HASH),
+    (("10 GOTO 10", &[]), ("10 GOTO 10", LIMIT), SAME_HASH),
+};
 
-// What is saved of a machine.
-fn saved(rt: &impl Abort, alloc: Global, machine: &Machine) -> SavedMachine {
-    let mut saved = SavedMachine::new(alloc);
-    expect_same(rt, "saved", saved.save(machine), Ok(()));
-    saved
+// Whether two of them hold the same.
+fn likeness(alloc: Global, one: &Machine, other: &Machine) -> Likeness {
+    let (mut first, mut second) = (SavedMachine::new(alloc), SavedMachine::new(alloc));
+    first.save(one)?;
+    second.save(other)?;
+    compared!(first, second)
 }
 
-// Whether two machines hold the same, whichever is asked, and whether they have one hash.
-fn expect_likeness(
-    rt: &impl Abort,
-    alloc: Global,
-    one: &Machine,
-    other: &Machine,
-    (what, same, same_hash): (&str, bool, bool),
-) {
-    let first = saved(rt, alloc, one);
-    let second = saved(rt, alloc, other);
-    let hash = first.hash() == second.hash();
-    let found = (first.is_same(&second), second.is_same(&first), hash);
-    expect_same(rt, what, found, (same, same, same_hash));
-    let steps = (first.steps(), second.steps());
-    expect_same(rt, what, steps, (one.steps(), other.steps()));
-}
-
-// A machine holds the same as its copy, as one that takes over what it holds, and as one that is
-// restored from what was saved of it.
-fn expect_copied(
-    rt: &impl Abort,
-    alloc: Global,
-    machine: &Machine,
-    one: &mut Machine,
-    two: &mut Machine,
-) {
+// A machine holds the same as its copy, and as one that takes over what it holds.
+fn expect_copied(rt: &impl Abort, alloc: Global, machine: &Machine, other: &mut Machine) {
     let copy = machine.copy(alloc).expect(rt, "memory");
-    expect_likeness(rt, alloc, machine, &copy, ("copy", true, true));
-    one.copy_from(alloc, machine).expect(rt, "memory");
-    expect_likeness(rt, alloc, machine, one, ("copied", true, true));
-    let saved = saved(rt, alloc, machine);
-    two.restore(alloc, &saved).expect(rt, "memory");
-    expect_likeness(rt, alloc, machine, two, ("restored", true, true))
+    expect_eq(rt, "copy", likeness(alloc, machine, &copy), ALIKE);
+    other.copy_from(alloc, machine).expect(rt, "memory");
+    expect_eq(rt, "copied", likeness(alloc, machine, other), ALIKE);
+}
+
+// It holds the same as one that is restored from what was saved of it.
+fn expect_restored(rt: &impl Abort, alloc: Global, machine: &Machine, other: &mut Machine) {
+    let mut saved = SavedMachine::new(alloc);
+    saved.save(machine).expect(rt, "memory");
+    expect_eq(rt, "steps", saved.steps(), machine.steps());
+    other.restore(alloc, &saved).expect(rt, "memory");
+    expect_eq(rt, "restored", likeness(alloc, machine, other), ALIKE);
+}
+
+// Two machines are so alike.
+fn expect_pair(rt: &impl Abort, alloc: Global, one: Played, other: Played, want: Likeness) {
+    let machine = machine_after(rt, alloc, one);
+    let mut other = machine_after(rt, alloc, other);
+    expect_eq(rt, one.0, likeness(alloc, &machine, &other), want);
+    let mut third = other.copy(alloc).expect(rt, "memory");
+    expect_copied(rt, alloc, &machine, &mut other);
+    expect_restored(rt, alloc, &machine, &mut third);
 }
 
 #[test]
 fn same_machines(rt: HostRuntime) {
-    for &(one, other, same, same_hash) in PAIRS {
-        let machine = machine_after(&rt, rt.alloc(), one);
-        let mut other = machine_after(&rt, rt.alloc(), other);
-        let mut third = other.copy(rt.alloc()).expect(&rt, "memory");
-        let want = (one.0, same, same_hash);
-        expect_likeness(&rt, rt.alloc(), &machine, &other, want);
-        expect_copied(&rt, rt.alloc(), &machine, &mut other, &mut third);
+    for &(one, other, want) in PAIRS {
+        expect_pair(&rt, rt.alloc(), one, other, want);
     }
 }
 

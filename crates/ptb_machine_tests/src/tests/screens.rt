@@ -1,41 +1,16 @@
 // This file tests screens over writers that take little and fail, and the screen in memory.
 
-use crate::shared::expect_same;
+use crate::tests::shared::{Counted, expect_eq};
 use ptb_devices::{Screen, TextScreen, WriterScreen};
-use ptb_text::{ByteSink, Device, DeviceFault};
-use std::io;
-use std::io::ErrorKind;
+use ptb_text::{Device, DeviceFault};
 use std::process::Abort;
-
-// Takes at most five bytes a call, and fails at a call.
-#[derive(Drop)]
-struct Frail<'a> {
-    taken: &'a mut Vec<u8>,
-    calls_left: usize,
-}
-
-impl<'a> ByteSink for Frail<'a> {
-    fn write(&mut self, buf: &[u8]) -> io::Result<usize> {
-        if self.calls_left == 0 {
-            return Err(io::Error::from(ErrorKind::BrokenPipe));
-        }
-        self.calls_left -= 1;
-        let count = buf.len().min(5);
-        self.taken.extend_from_slice(&buf[..count])?;
-        Ok(count)
-    }
-
-    fn flush(&mut self) -> io::Result<()> {
-        Ok(())
-    }
-}
 
 fn put_twice<S: Screen>(screen: &mut S) -> Result<(), DeviceFault> {
     screen.put(b"1234567")?;
     screen.put(b"89")
 }
 
-// How many calls the writer takes, whether all bytes are shown, and which it takes.
+// How many writes of at most five bytes the writer takes, whether all bytes are shown, and which it takes.
 const WRITERS: &[(usize, Result<(), DeviceFault>, &[u8])] = &[
     (0, Err(DeviceFault::Write), b""),
     (1, Err(DeviceFault::Write), b"12345"),
@@ -45,22 +20,24 @@ const WRITERS: &[(usize, Result<(), DeviceFault>, &[u8])] = &[
 
 #[test]
 fn writer_screens(rt: HostRuntime) {
-    for &(calls_left, want, shown) in WRITERS {
+    for &(writes, want, shown) in WRITERS {
+        let mut writes_left = writes;
         let mut taken = Vec::new(rt.alloc());
-        let mut writer = Device::new(Frail {
+        let mut writer = Device::new(Counted {
             taken: &mut taken,
-            calls_left,
+            most: 5,
+            writes_left: &mut writes_left,
         });
         let result = put_twice(&mut WriterScreen::new(&mut writer));
         drop(writer);
-        expect_same(&rt, "writer", (result, taken.as_slice()), (want, shown));
+        expect_eq(&rt, "writer", (result, taken.as_slice()), (want, shown));
     }
 }
 
 // What a screen in memory has shown.
 fn expect_shown(rt: &impl Abort, screen: &TextScreen, shown: &[u8]) {
     let found = (screen.bytes(), screen.len(), screen.is_empty());
-    expect_same(rt, "shown", found, (shown, shown.len(), shown.is_empty()));
+    expect_eq(rt, "shown", found, (shown, shown.len(), shown.is_empty()));
 }
 
 #[test]
@@ -73,7 +50,7 @@ fn text_screens(rt: HostRuntime) {
     screen.cut(3);
     expect_shown(&rt, &screen, b"123");
     let mut again = TextScreen::from_vec(screen.into_vec());
-    expect_same(&rt, "put", (first, put_twice(&mut again)), (Ok(()), Ok(())));
+    expect_eq(&rt, "put", (first, put_twice(&mut again)), (Ok(()), Ok(())));
     expect_shown(&rt, &again, b"123123456789");
-    expect_same(&rt, "text", again.into_vec().as_slice(), b"123123456789");
+    expect_eq(&rt, "text", again.into_vec().as_slice(), b"123123456789");
 }

@@ -16,20 +16,39 @@ use std::io::ErrorKind;
 use std::process::Abort;
 
 // Two values that must be the same; `what` says of what they are.
-pub(crate) fn expect_same<T: Copy + PartialEq + Debug>(
-    rt: &impl Abort,
-    what: &str,
-    found: T,
-    wanted: T,
-) {
-    assert_eq!(rt; found, wanted, "{what}");
+pub(crate) fn expect_eq<T: Copy + PartialEq + Debug>(rt: &impl Abort, what: &str, a: T, b: T) {
+    assert_eq!(rt; a, b, "{what}");
 }
 
-// A cursor in front of a text, which has at most 255 bytes.
-pub(crate) fn cursor_in_front<'a>(rt: &impl Abort, text: &'a [u8]) -> Cursor<'a> {
-    assert!(rt; text.len() <= 255);
-    Cursor::new(text, 0)
+// The rows of a table, each on a line of its own.
+macro_rules! table {
+    ($($row:tt),* $(,)?) => {
+        &[$($row),*]
+    };
 }
+
+pub(crate) use table;
+
+// Whether two values that are saved are the same, whichever is asked, and whether they have one hash.
+pub(crate) type Likeness = Result<(bool, bool, bool), AllocError>;
+
+pub(crate) const ALIKE: Likeness = Ok((true, true, true));
+
+pub(crate) const SAME_HASH: Likeness = Ok((false, false, true));
+
+pub(crate) const UNLIKE: Likeness = Ok((false, false, false));
+
+macro_rules! compared {
+    ($one:ident, $other:ident) => {
+        Ok((
+            $one.is_same(&$other),
+            $other.is_same(&$one),
+            $one.hash() == $other.hash(),
+        ))
+    };
+}
+
+pub(crate) use compared;
 
 // Gives some bytes a call, and then the end or a fault, and counts its calls.
 #[derive(Drop)]
@@ -85,21 +104,23 @@ impl ByteSource for Long {
     }
 }
 
-// Takes all bytes of a write, until it fails.
+// Takes so many bytes of a write at most, until it fails.
 #[derive(Drop)]
 pub(crate) struct Counted<'a> {
     pub(crate) taken: &'a mut Vec<u8>,
+    pub(crate) most: usize,
     pub(crate) writes_left: &'a mut usize,
 }
 
 impl<'a> ByteSink for Counted<'a> {
     fn write(&mut self, buf: &[u8]) -> io::Result<usize> {
-        if *self.writes_left == 0 {
+        let Some(left) = self.writes_left.checked_sub(1) else {
             return Err(io::Error::from(ErrorKind::BrokenPipe));
-        }
-        *self.writes_left -= 1;
-        self.taken.extend_from_slice(buf)?;
-        Ok(buf.len())
+        };
+        *self.writes_left = left;
+        let count = buf.len().min(self.most);
+        self.taken.extend_from_slice(&buf[..count])?;
+        Ok(count)
     }
 
     fn flush(&mut self) -> io::Result<()> {
@@ -168,19 +189,28 @@ pub(crate) fn with_line(
     (program, registers)
 }
 
-// What a command is done with.
+// What a command is offered: lines, answers, and the bound of an answer where no line is left.
 #[derive(Clone, Copy)]
-pub(crate) struct Given<'a> {
+pub(crate) struct Offer<'a> {
     pub(crate) lines: &'a [Line],
     pub(crate) answers: &'a [i16],
-    pub(crate) rules: Rules,
+    pub(crate) choose: Option<i16>,
+}
+
+// Nothing is offered.
+pub(crate) fn nothing() -> Offer<'static> {
+    Offer {
+        lines: &[],
+        answers: &[],
+        choose: None,
+    }
 }
 
 // Does the first command of a program. How it is done, and whether the transcript is fresh then.
 pub(crate) fn done<S: Screen>(
     program: &Program,
     registers: &mut Registers,
-    given: Given<'_>,
+    offer: Offer<'_>,
     screen: &mut S,
     output: &mut Output,
 ) -> (Result<(), Stop>, bool) {
@@ -194,9 +224,10 @@ pub(crate) fn done<S: Screen>(
         operations: code.operations(),
         steps: code.steps(),
     };
-    let mut chooser = Listed::new(given.answers);
-    let mut source = Lines::new(given.lines);
-    let mut io = CommandIo::new(&mut chooser, screen, &mut source, true, given.rules);
+    let mut chooser = Listed::new(offer.answers);
+    let mut source = Lines::new(offer.lines);
+    let rules = rules_with(1, offer.choose);
+    let mut io = CommandIo::new(&mut chooser, screen, &mut source, true, rules);
     let result = registers.execute(context, &mut io, output);
     (result, io.fresh)
 }
@@ -226,6 +257,17 @@ pub(crate) fn plain_rules(limit: u32) -> Rules
     Rules {
         limit,
         choose: None,
+    }
+}
+
+// The rules with a limit and with a bound, if it is at least 1.
+pub(crate) fn rules_with(limit: u32, choose: Option<i16>) -> Rules {
+    match choose {
+        Some(bound) if bound >= 1 => Rules {
+            limit,
+            choose: Some(bound),
+        },
+        _ => plain_rules(limit),
     }
 }
 

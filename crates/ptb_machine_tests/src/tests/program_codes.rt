@@ -1,9 +1,10 @@
 // This file tests the code of a whole program: which command it finds at a place, how many commands
 // are done by it in a row, and a program that has more commands than there is room for their code.
 
-use crate::loops::expect_end;
-use crate::shared::{MEMORY, expect_same, letter, numbers, push_lines};
-use ptb_command::{Location, Registers};
+use crate::tests::loops::expect_end;
+use crate::tests::shared::{MEMORY, expect_eq, letter, numbers, push_lines, table};
+use ptb_code::Location;
+use ptb_command::Registers;
 use ptb_machine::{Ending, Operation, ProgramCode};
 use ptb_text::{Device, LoadFault, Program, load};
 use std::alloc::{AllocError, Global};
@@ -35,7 +36,14 @@ fn name(operation: Option<&Operation>) -> &'static str {
 
 // A statement and a place in it, a guess; the command that is next there: its index, its statement,
 // the place at which it begins, and its first operation.
-const PLACES: &[(usize, usize, usize, Option<(usize, usize, usize, &str)>)] = &[
+type Place = (
+    usize,
+    usize,
+    usize,
+    Option<(usize, usize, usize, &'static str)>,
+);
+
+const PLACES: &[Place] = &[
     // the guess is the command before, another one, none
     (0, 4, 0, Some((1, 0, 4, "goto"))),
     (0, 4, 1, Some((1, 0, 4, "goto"))),
@@ -53,13 +61,30 @@ const PLACES: &[(usize, usize, usize, Option<(usize, usize, usize, &str)>)] = &[
     (3, 0, 0, None),
 ];
 
+// This command is next.
+fn expect_next(
+    rt: &impl Abort,
+    program: &Program,
+    code: &ProgramCode,
+    (statement, at, guess, wanted): Place,
+) {
+    let found = match code.next(program, Location { statement, at }, guess) {
+        Some(next) => {
+            let name = name(next.operations.first());
+            Some((next.index, next.place.statement, next.place.at, name))
+        }
+        None => None,
+    };
+    expect_eq(rt, "next", found, wanted);
+}
+
 // Passes whichever of its allocations is refused.
 #[test]
 fn next_code_of_a_program(rt: HostRuntime) -> Result<(), Fail> {
     let program = match program_of(rt.alloc(), FOUR_COMMANDS) {
         Ok(program) => program,
         Err(fault) => {
-            expect_same(&rt, "fault", fault, LoadFault::Memory);
+            expect_eq(&rt, "fault", fault, LoadFault::Memory);
             return Ok(());
         }
     };
@@ -67,15 +92,8 @@ fn next_code_of_a_program(rt: HostRuntime) -> Result<(), Fail> {
         Ok(code) => code,
         Err(AllocError) => return Ok(()),
     };
-    for &(statement, at, guess, wanted) in PLACES {
-        let found = match code.next(&program, Location { statement, at }, guess) {
-            Some(next) => {
-                let name = name(next.operations.first());
-                Some((next.index, next.place.statement, next.place.at, name))
-            }
-            None => None,
-        };
-        expect_same(&rt, "next", found, wanted);
+    for &row in PLACES {
+        expect_next(&rt, &program, &code, row);
     }
     Ok(())
 }
@@ -84,7 +102,7 @@ fn next_code_of_a_program(rt: HostRuntime) -> Result<(), Fail> {
 // which the next command is sought then, and the value of A.
 type Row = (&'static [&'static str], u32, u32, (usize, usize), i16);
 
-const RUNS: &[Row] = &[
+const RUNS: &[Row] = table! {
     (&["10 A=1;A=A+1", "20 GOTO 10"], 0, 0, (0, 0), 0),
     (&["10 A=1;A=A+1", "20 GOTO 10"], 1, 1, (0, 4), 1),
     (&["10 A=1;A=A+1", "20 GOTO 10"], 5, 5, (0, 9), 2),
@@ -99,40 +117,32 @@ const RUNS: &[Row] = &[
     (&["10 A=7", "20 F.A=8TO A/0"], 9, 1, (0, 3), 7),
     // up to the end of the program
     (&["10 A=7", "20 A=8"], 9, 2, (1, 3), 8),
-    (
-        &["10 FOR I=1 TO 3", "20 A=A+I", "30 NEXT I", "40 STOP"],
-        99,
-        7,
-        (2, 6),
-        6,
-    ),
-    (
-        &["10 GOSUB 100;A=A+1", "20 STOP", "100 A=5;RETURN"],
-        9,
-        4,
-        (0, 15),
-        6,
-    ),
-    (
-        &["10 A=A+1;IF A<3 GOTO 10", "20 A=-A;STOP"],
-        99,
-        9,
-        (1, 5),
-        -3,
-    ),
-];
+    (&["10 FOR I=1 TO 3", "20 A=A+I", "30 NEXT I", "40 STOP"], 99, 7, (2, 6), 6),
+    (&["10 GOSUB 100;A=A+1", "20 STOP", "100 A=5;RETURN"], 9, 4, (0, 15), 6),
+    (&["10 A=A+1;IF A<3 GOTO 10", "20 A=-A;STOP"], 99, 9, (1, 5), -3),
+};
 
-// The commands of a row are done so, whichever entry is the guess.
+// The commands of a row are done so, if this entry is the guess.
+fn expect_done(
+    rt: &impl Abort,
+    alloc: Global,
+    (program, code): (&Program, &ProgramCode),
+    guess: usize,
+    &(_, most, wanted, place, a): &Row,
+) {
+    let mut registers = Registers::new(alloc, program).expect(rt, "memory");
+    let done = code.advance(program, &mut registers, most, guess).done;
+    let a_then = registers.store.get(letter(b'A'));
+    let found = (guess, done, numbers(registers.place), a_then);
+    expect_eq(rt, "run", found, (guess, wanted, Some(place), a));
+}
+
+// They are done so whichever entry is the guess.
 fn expect_row(rt: &impl Abort, alloc: Global, row: &Row) {
-    let &(lines, most, wanted, place, a) = row;
-    let program = program_of(alloc, lines).expect(rt, "memory");
+    let program = program_of(alloc, row.0).expect(rt, "memory");
     let code = ProgramCode::new(alloc, &program).expect(rt, "memory");
     for guess in [0, 1, 99] {
-        let mut registers = Registers::new(alloc, &program).expect(rt, "memory");
-        let done = code.advance(&program, &mut registers, most, guess).done;
-        let a_then = registers.store.get(letter(b'A'));
-        let found = (guess, done, numbers(registers.place), a_then);
-        expect_same(rt, "run", found, (guess, wanted, Some(place), a));
+        expect_done(rt, alloc, (&program, &code), guess, row);
     }
 }
 
@@ -166,22 +176,22 @@ fn has_code(code: &ProgramCode, program: &Program, statement: usize) -> bool {
     code.next(program, place, 0).is_some()
 }
 
-// The last statements have no code. The program has three rounds: two of 126 commands, and one of 125,
-// which does not jump back, before a PRINT and a STOP.
+// The last statements have no code, unlike the first ones.
+fn expect_little_code(rt: &impl Abort, alloc: Global, program: &Program) {
+    let code = ProgramCode::new(alloc, program).expect(rt, "memory");
+    let first = (has_code(&code, program, 0), has_code(&code, program, 70));
+    let last = (has_code(&code, program, 110), has_code(&code, program, 111));
+    expect_eq(rt, "code", (first, last), ((true, true), (false, false)));
+}
+
+// The program has three rounds: two of 126 commands, and one of 125, which does not jump back, before a
+// PRINT and a STOP.
 #[test]
 fn commands_without_code(rt: HostRuntime) {
     let text = text_with_much_code(rt.alloc()).expect(&rt, "memory");
     let mut bytes = text.as_slice();
     let program = load(rt.alloc(), 32_767, &mut Device::new(&mut bytes)).expect(&rt, "a program");
-    let code = ProgramCode::new(rt.alloc(), &program).expect(&rt, "memory");
-    let first = (has_code(&code, &program, 0), has_code(&code, &program, 70));
-    let last = (
-        has_code(&code, &program, 110),
-        has_code(&code, &program, 111),
-    );
-    expect_same(&rt, "code", (first, last), ((true, true), (false, false)));
-    drop(code);
-    let shown = b"     3     3    30     6\n".as_slice();
-    let want = (Ending::Stop, shown);
+    expect_little_code(&rt, rt.alloc(), &program);
+    let want = (Ending::Stop, b"     3     3    30     6\n".as_slice());
     expect_end(&rt, rt.alloc(), ("much code", &program), 379, want);
 }

@@ -1,6 +1,6 @@
 // This file tests whole runs: how they end, at which line a limit stops them, and what they show.
 
-use crate::shared::{Counted, expect_same, loaded, plain_rules};
+use crate::tests::shared::{Counted, expect_eq, loaded, plain_rules, rules_with, table};
 use ptb_expr::Listed;
 use ptb_machine::{
     Ending, Lines, ReaderLines, Rules, RunEnd, RunFault, TextScreen, WriterScreen, run, run_to_end,
@@ -57,11 +57,11 @@ pub(crate) fn expect_run(
 ) {
     let mut screen = TextScreen::new(alloc);
     let ending = ending_of(alloc, program, setting, &mut screen);
-    expect_same(rt, text, (ending, screen.bytes()), (Ok(want), shown));
+    expect_eq(rt, text, (ending, screen.bytes()), (Ok(want), shown));
 }
 
 // Each program with a limit of 300 commands: how its run ends, and what it shows.
-const RUNS: &[(&str, Ending, &[u8])] = &[
+const RUNS: &[(&str, Ending, &[u8])] = table! {
     ("", Ending::End, b""),
     ("10 PRINT \"HI\"", Ending::End, b"HI\n"),
     ("10 PRINT 'ABC',_,\"X\",#3,7", Ending::End, b"ABC\rX  7\n"),
@@ -71,66 +71,45 @@ const RUNS: &[(&str, Ending, &[u8])] = &[
     ("10 P.1;STOP\n20 P.2", Ending::Stop, b"     1\n"),
     ("10 P.1,;GOTO 30\n30 P.3", Ending::End, b"     1     3\n"),
     ("10 IF 0 P.1;P.2\n20 P.3", Ending::End, b"     3\n"),
-    (
-        "10 IF 2 P.1;P.2\n20 P.3",
-        Ending::End,
-        b"     1\n     2\n     3\n",
-    ),
+    ("10 IF 2 P.1;P.2\n20 P.3", Ending::End, b"     1\n     2\n     3\n"),
     ("10 IF 1=2 P.1", Ending::End, b""),
     ("10 REM", Ending::End, b""),
     ("10 F.I=1TO3S.2;P.I,;N.I", Ending::End, b"     1     3"),
     ("10 @(3)=4;P.@(3)", Ending::End, b"     4\n"),
-    (
-        "10 GOS.30;P.2;S.\n30 P.1;R.",
-        Ending::Stop,
-        b"     1\n     2\n",
-    ),
+    ("10 GOS.30;P.2;S.\n30 P.1;R.", Ending::Stop, b"     1\n     2\n"),
     ("10 GOSUB 10", Ending::Sorry, b"SORRY\n10 GOSUB 10?\n"),
-    (
-        "10 GOS.30;N.J\n30 F.J=1TO9;R.",
-        Ending::What,
-        b"WHAT?\n10 GOS.30;N.J?\n",
-    ),
-    (
-        "300 B=200,C=200\n310 LET A=B*C+2",
-        Ending::How,
-        b"HOW?\n310 LET A=B*C?+2\n",
-    ),
+    ("10 GOS.30;N.J\n30 F.J=1TO9;R.", Ending::What, b"WHAT?\n10 GOS.30;N.J?\n"),
+    ("300 B=200,C=200\n310 LET A=B*C+2", Ending::How, b"HOW?\n310 LET A=B*C?+2\n"),
     ("10 INPUT A", Ending::NoInput, b"A:"),
     // faults: the report begins on a fresh line, and shows the statement with the mark
-    (
-        "10 PRINT -(-32767-1)",
-        Ending::How,
-        b"HOW?\n10 PRINT -(-32767-1)?\n",
-    ),
-    (
-        "10 P.1,;P.1/0",
-        Ending::How,
-        b"     1\nHOW?\n10 P.1,;P.1/0?\n",
-    ),
-    (
-        "10 P.1;P.1/0",
-        Ending::How,
-        b"     1\nHOW?\n10 P.1;P.1/0?\n",
-    ),
-    (
-        "10 P._,;GOTO 9",
-        Ending::How,
-        b"\r\nHOW?\n10 P._,;GOTO 9?\n",
-    ),
+    ("10 PRINT -(-32767-1)", Ending::How, b"HOW?\n10 PRINT -(-32767-1)?\n"),
+    ("10 P.1,;P.1/0", Ending::How, b"     1\nHOW?\n10 P.1,;P.1/0?\n"),
+    ("10 P.1;P.1/0", Ending::How, b"     1\nHOW?\n10 P.1;P.1/0?\n"),
+    ("10 P._,;GOTO 9", Ending::How, b"\r\nHOW?\n10 P._,;GOTO 9?\n"),
     ("10 GOTO 20 P.1", Ending::What, b"WHAT?\n10 GOTO 20 ?P.1\n"),
     ("10 STOP 1", Ending::What, b"WHAT?\n10 STOP ?1\n"),
     ("10 P.@(30000)", Ending::Sorry, b"SORRY\n10 P.@(30000)?\n"),
     ("10 IF 0 P.(", Ending::End, b""),
     ("10 IF ;P.1", Ending::What, b"WHAT?\n10 IF ?;P.1\n"),
     ("10 GOTO 10", Ending::Limit, b""),
-];
+};
+
+// So does that of a text.
+pub(crate) fn expect_text(
+    rt: &impl Abort,
+    alloc: Global,
+    text: &str,
+    setting: Setting<'_>,
+    want: (Ending, &[u8]),
+) {
+    let program = loaded(rt, alloc, text.as_bytes());
+    expect_run(rt, alloc, (text, &program), setting, want);
+}
 
 #[test]
 fn runs(rt: HostRuntime) {
     for &(text, want, shown) in RUNS {
-        let program = loaded(&rt, rt.alloc(), text.as_bytes());
-        expect_run(&rt, rt.alloc(), (text, &program), alone(300), (want, shown));
+        expect_text(&rt, rt.alloc(), text, alone(300), (want, shown));
     }
 }
 
@@ -152,208 +131,52 @@ const ELEMENT: &str = "10 INPUT @(RND(2)-1);P.@(1)";
 const REPEATED: &str = "10 INPUT A\n20 IF A#1 GOTO 10";
 
 // Each program with its bounds and answers: how its run ends, and what it shows.
-const ANSWERED: &[(&str, Bounds, &[i16], Ending, &[u8])] = &[
+const ANSWERED: &[(&str, Bounds, &[i16], Ending, &[u8])] = table! {
     // answers to RND, and the limit on commands
-    (
-        TWO_QUESTIONS,
-        (b"", 2, None),
-        &[1, 2],
-        Ending::End,
-        b"     1     2\n",
-    ),
-    (
-        TWO_QUESTIONS,
-        (b"", 2, None),
-        &[1, 2, 9],
-        Ending::End,
-        b"     1     2\n",
-    ),
-    (
-        TWO_QUESTIONS,
-        (b"", 1, None),
-        &[1],
-        Ending::Limit,
-        b"     1",
-    ),
+    (TWO_QUESTIONS, (b"", 2, None), &[1, 2], Ending::End, b"     1     2\n"),
+    (TWO_QUESTIONS, (b"", 2, None), &[1, 2, 9], Ending::End, b"     1     2\n"),
+    (TWO_QUESTIONS, (b"", 1, None), &[1], Ending::Limit, b"     1"),
     (TWO_QUESTIONS, (b"", 0, None), &[], Ending::Limit, b""),
-    (
-        TWO_QUESTIONS,
-        (b"", 9, None),
-        &[1],
-        Ending::NoAnswer,
-        b"     1",
-    ),
-    (
-        TWO_QUESTIONS,
-        (b"", 9, None),
-        &[1, 3],
-        Ending::BadAnswer,
-        b"     1",
-    ),
+    (TWO_QUESTIONS, (b"", 9, None), &[1], Ending::NoAnswer, b"     1"),
+    (TWO_QUESTIONS, (b"", 9, None), &[1, 3], Ending::BadAnswer, b"     1"),
     (TWO_QUESTIONS, (b"", 9, None), &[0], Ending::BadAnswer, b""),
     // each command counts as one step, also those that show nothing
     (COUNTED, (b"", 7, None), &[], Ending::Limit, b"     1     2"),
-    (
-        COUNTED,
-        (b"", 8, None),
-        &[],
-        Ending::Limit,
-        b"     1     2     3",
-    ),
-    (
-        COUNTED,
-        (b"", 9, None),
-        &[],
-        Ending::Limit,
-        b"     1     2     3",
-    ),
-    (
-        COUNTED,
-        (b"", 10, None),
-        &[],
-        Ending::Limit,
-        b"     1     2     3",
-    ),
-    (
-        COUNTED,
-        (b"", 11, None),
-        &[],
-        Ending::Limit,
-        b"     1     2     3     4",
-    ),
-    (
-        COUNTED,
-        (b"", 12, None),
-        &[],
-        Ending::Limit,
-        b"     1     2     3     4",
-    ),
-    (
-        COUNTED,
-        (b"", 20, None),
-        &[],
-        Ending::Limit,
-        b"     1     2     3     4     5     6     7",
-    ),
+    (COUNTED, (b"", 8, None), &[], Ending::Limit, b"     1     2     3"),
+    (COUNTED, (b"", 9, None), &[], Ending::Limit, b"     1     2     3"),
+    (COUNTED, (b"", 10, None), &[], Ending::Limit, b"     1     2     3"),
+    (COUNTED, (b"", 11, None), &[], Ending::Limit, b"     1     2     3     4"),
+    (COUNTED, (b"", 12, None), &[], Ending::Limit, b"     1     2     3     4"),
+    (COUNTED, (b"", 20, None), &[], Ending::Limit, b"     1     2     3     4     5     6     7"),
     // an answer stands in for a line that INPUT doesn't find: it is shown as one, and isn't read
-    (
-        SHOWN,
-        (b"", 9, Some(2)),
-        &[1],
-        Ending::End,
-        b"A:1\n     1\n",
-    ),
-    (
-        SHOWN,
-        (b"", 9, Some(2)),
-        &[2],
-        Ending::End,
-        b"A:2\n     2\n",
-    ),
-    (
-        SHOWN,
-        (b")\n", 9, Some(2)),
-        &[2],
-        Ending::End,
-        b"A:)\nWHAT?\nA:2\n     2\n",
-    ),
-    (
-        SHOWN,
-        (b"7\n", 9, Some(2)),
-        &[],
-        Ending::End,
-        b"A:7\n     7\n",
-    ),
+    (SHOWN, (b"", 9, Some(2)), &[1], Ending::End, b"A:1\n     1\n"),
+    (SHOWN, (b"", 9, Some(2)), &[2], Ending::End, b"A:2\n     2\n"),
+    (SHOWN, (b")\n", 9, Some(2)), &[2], Ending::End, b"A:)\nWHAT?\nA:2\n     2\n"),
+    (SHOWN, (b"7\n", 9, Some(2)), &[], Ending::End, b"A:7\n     7\n"),
     (ONE_INPUT, (b"", 9, Some(2)), &[], Ending::NoAnswer, b"A:"),
     (ONE_INPUT, (b"", 9, Some(2)), &[3], Ending::BadAnswer, b"A:"),
     (ONE_INPUT, (b"", 9, Some(2)), &[0], Ending::BadAnswer, b"A:"),
-    (
-        "10 INPUT \"N\"A",
-        (b"", 9, Some(2)),
-        &[2],
-        Ending::End,
-        b"N:2\n",
-    ),
-    (
-        TWO_INPUTS,
-        (b"", 9, Some(2)),
-        &[1, 2],
-        Ending::End,
-        b"A:1\nB:2\n     3\n",
-    ),
-    (
-        TWO_INPUTS,
-        (b"5\n", 9, Some(2)),
-        &[2],
-        Ending::End,
-        b"A:5\nB:2\n     7\n",
-    ),
-    (
-        TWO_INPUTS,
-        (b"RND(3)\n", 9, Some(2)),
-        &[3, 2],
-        Ending::End,
-        b"A:RND(3)\nB:2\n     5\n",
-    ),
-    (
-        ELEMENT,
-        (b"", 9, Some(2)),
-        &[2, 1],
-        Ending::End,
-        b"@(RND(2)-1):1\n     1\n",
-    ),
-    (
-        ELEMENT,
-        (b"", 9, Some(2)),
-        &[2],
-        Ending::NoAnswer,
-        b"@(RND(2)-1):",
-    ),
-    (
-        ELEMENT,
-        (b"?\n", 9, Some(2)),
-        &[1, 2, 2],
-        Ending::End,
-        b"@(RND(2)-1):?\nWHAT?\n@(RND(2)-1):2\n     2\n",
-    ),
+    ("10 INPUT \"N\"A", (b"", 9, Some(2)), &[2], Ending::End, b"N:2\n"),
+    (TWO_INPUTS, (b"", 9, Some(2)), &[1, 2], Ending::End, b"A:1\nB:2\n     3\n"),
+    (TWO_INPUTS, (b"5\n", 9, Some(2)), &[2], Ending::End, b"A:5\nB:2\n     7\n"),
+    (TWO_INPUTS, (b"RND(3)\n", 9, Some(2)), &[3, 2], Ending::End, b"A:RND(3)\nB:2\n     5\n"),
+    (ELEMENT, (b"", 9, Some(2)), &[2, 1], Ending::End, b"@(RND(2)-1):1\n     1\n"),
+    (ELEMENT, (b"", 9, Some(2)), &[2], Ending::NoAnswer, b"@(RND(2)-1):"),
+    (ELEMENT, (b"?\n", 9, Some(2)), &[1, 2, 2], Ending::End, b"@(RND(2)-1):?\nWHAT?\n@(RND(2)-1):2\n     2\n"),
     // the greatest bound, and commands that ask often
-    (
-        REPEATED,
-        (b"", 9, Some(32767)),
-        &[32767, 1],
-        Ending::End,
-        b"A:32767\nA:1\n",
-    ),
-    (
-        REPEATED,
-        (b"", 2, Some(32767)),
-        &[2, 2, 2],
-        Ending::Limit,
-        b"A:2\n",
-    ),
-];
-
-// The rules with a limit and with a bound, if it is at least 1.
-fn rules_with(limit: u32, choose: Option<i16>) -> Rules {
-    match choose {
-        Some(bound) if bound >= 1 => Rules {
-            limit,
-            choose: Some(bound),
-        },
-        _ => plain_rules(limit),
-    }
-}
+    (REPEATED, (b"", 9, Some(32767)), &[32767, 1], Ending::End, b"A:32767\nA:1\n"),
+    (REPEATED, (b"", 2, Some(32767)), &[2, 2, 2], Ending::Limit, b"A:2\n"),
+};
 
 #[test]
 fn answers_and_limits(rt: HostRuntime) {
     for &(text, (input, limit, choose), answers, want, shown) in ANSWERED {
-        let program = loaded(&rt, rt.alloc(), text.as_bytes());
         let setting = Setting {
             input,
             rules: rules_with(limit, choose),
             answers,
         };
-        expect_run(&rt, rt.alloc(), (text, &program), setting, (want, shown));
+        expect_text(&rt, rt.alloc(), text, setting, (want, shown));
     }
 }
 
@@ -379,21 +202,21 @@ const STOPS: &[(&str, u32, Ending, Option<u16>)] = &[
 ];
 
 // How a run without input or answers ends, and where.
-fn end_of(alloc: Global, program: &Program, limit: u32) -> Result<RunEnd, RunFault> {
+fn end_of(rt: &impl Abort, alloc: Global, text: &str, limit: u32) -> Result<RunEnd, RunFault> {
+    let program = loaded(rt, alloc, text.as_bytes());
     let mut list = Listed::new(&[]);
     let mut screen = TextScreen::new(alloc);
     let mut input = Lines::new(&[]);
     let rules = plain_rules(limit);
-    run_to_end(alloc, program, rules, &mut list, &mut screen, &mut input)
+    run_to_end(alloc, &program, rules, &mut list, &mut screen, &mut input)
 }
 
 // Where the limit stops a run: in the statement in which its next command begins.
 #[test]
 fn stops(rt: HostRuntime) {
     for &(text, limit, ending, line) in STOPS {
-        let program = loaded(&rt, rt.alloc(), text.as_bytes());
-        let end = end_of(rt.alloc(), &program, limit);
-        expect_same(&rt, text, end, Ok(RunEnd { ending, line }));
+        let end = end_of(&rt, rt.alloc(), text, limit);
+        expect_eq(&rt, text, end, Ok(RunEnd { ending, line }));
     }
 }
 
@@ -406,6 +229,7 @@ fn ending_with_writes(
 ) -> Result<Ending, RunFault> {
     let mut writer = Device::new(Counted {
         taken,
+        most: usize::MAX,
         writes_left: &mut writes_left,
     });
     let mut screen = WriterScreen::new(&mut writer);
@@ -426,19 +250,24 @@ const WRITES: &[(usize, Result<Ending, RunFault>, &[u8])] = &[
     (6, Ok(Ending::Limit), b"1AB2AB3AB4AB5AB"),
 ];
 
+// A run whose writer takes so many writes ends so.
+fn expect_writes(
+    rt: &impl Abort,
+    alloc: Global,
+    program: &Program,
+    (writes, want, shown): (usize, Result<Ending, RunFault>, &[u8]),
+) {
+    let mut taken = Vec::new(alloc);
+    let ending = ending_with_writes(alloc, program, writes, &mut taken);
+    expect_eq(rt, "a run", (ending, taken.as_slice()), (want, shown));
+}
+
 // Each PRINT is one write, and the first write that fails ends the run.
 #[test]
 fn prints_to_a_writer_that_fails(rt: HostRuntime) {
     let text = b"10 A=A+1;P.#1,A,'A','B',;IF A<7 GOTO 10";
     let program = loaded(&rt, rt.alloc(), text);
-    for &(writes, want, shown) in WRITES {
-        let mut taken = Vec::new(rt.alloc());
-        let ending = ending_with_writes(rt.alloc(), &program, writes, &mut taken);
-        expect_same(
-            &rt,
-            "a run",
-            (writes, ending, taken.as_slice()),
-            (writes, want, shown),
-        );
+    for &row in WRITES {
+        expect_writes(&rt, rt.alloc(), &program, row);
     }
 }

@@ -1,16 +1,16 @@
 // This file tests how the lines of an input are read, one by one when they are asked for, and all at
 // once: in pieces, to the end, to a fault, and without an end.
 
-use crate::shared::{Long, expect_same, scripted};
+use crate::tests::shared::{Long, expect_eq, scripted, table};
 use ptb_devices::{LineSource, Lines, ReaderLines, read_lines};
 use ptb_text::{Device, DeviceFault, Read};
-use std::alloc::Global;
+use std::alloc::{AllocError, Global};
 use std::process::Abort;
 
 // These lines come from a source. The row says where they are expected.
 fn expect_lines<L: LineSource>(rt: &impl Abort, row: usize, source: &mut L, lines: &[&[u8]]) {
     for &line in lines {
-        expect_same(rt, "line", (row, source.next()), (row, Ok(Some(line))));
+        expect_eq(rt, "line", (row, source.next()), (row, Ok(Some(line))));
     }
 }
 
@@ -22,7 +22,7 @@ fn expect_end<L: LineSource>(
     end: Result<Option<&[u8]>, DeviceFault>,
 ) {
     for _ in 0..2 {
-        expect_same(rt, "end", (row, source.next()), (row, end));
+        expect_eq(rt, "end", (row, source.next()), (row, end));
     }
 }
 
@@ -40,18 +40,21 @@ fn expect_read<R: Read>(
     };
     let mut source = ReaderLines::new(reader);
     expect_lines(rt, row, &mut source, lines);
-    expect_same(rt, "no fault", source.fault(), None);
+    expect_eq(rt, "no fault", source.fault(), None);
     expect_end(rt, row, &mut source, end);
-    expect_same(rt, "fault", source.fault(), fault);
+    expect_eq(rt, "fault", source.fault(), fault);
 }
 
-// These lines come from an input in such pieces, one by one and all at once.
-fn expect_input(rt: &impl Abort, alloc: Global, bytes: &[u8], piece: usize, lines: &[&[u8]]) {
+// These lines come from an input in such pieces, one by one.
+fn expect_input(rt: &impl Abort, bytes: &[u8], piece: usize, lines: &[&[u8]]) {
     let mut reader = Device::new(scripted(bytes, piece, false));
     expect_read(rt, piece, &mut reader, lines, None);
-    let all = read_lines(alloc, &mut Device::new(scripted(bytes, piece, false))).expect(
-        rt, "memory",
-    );
+}
+
+// They also come all at once.
+fn expect_whole(rt: &impl Abort, alloc: Global, bytes: &[u8], piece: usize, lines: &[&[u8]]) {
+    let mut reader = Device::new(scripted(bytes, piece, false));
+    let all = read_lines(alloc, &mut reader).expect(rt, "memory");
     let mut source = Lines::new(&all);
     expect_lines(rt, piece, &mut source, lines);
     expect_end(rt, piece, &mut source, Ok(None));
@@ -76,7 +79,8 @@ const INPUTS: &[(&[u8], &[&[u8]])] = &[
 fn lines_of_an_input(rt: HostRuntime) {
     for &(bytes, lines) in INPUTS {
         for piece in [1, 2, 3, 4096] {
-            expect_input(&rt, rt.alloc(), bytes, piece, lines);
+            expect_input(&rt, bytes, piece, lines);
+            expect_whole(&rt, rt.alloc(), bytes, piece, lines);
         }
     }
 }
@@ -86,23 +90,29 @@ const LONG: &[u8] = &[b'A'; 255];
 
 // Where an input of 5000 bytes has newlines, and its lines: lines longer than the buffer, lines that
 // end at its border or begin after it, and others after them.
-const LONG_INPUTS: &[(&[usize], &[&[u8]])] = &[
+const LONG_INPUTS: &[(&[usize], &[&[u8]])] = table! {
     (&[300, 4990], &[LONG, LONG, b"AAAAAAAAA"]),
-    (
-        &[10, 4095, 4096, 4100],
-        &[b"AAAAAAAAAA", LONG, b"", b"AAA", LONG],
-    ),
-];
+    (&[10, 4095, 4096, 4100], &[b"AAAAAAAAAA", LONG, b"", b"AAA", LONG]),
+};
+
+// The byte 65 so often, and newlines at these places.
+fn long_input(alloc: Global, count: usize, newlines: &[usize]) -> Result<Vec<u8>, AllocError> {
+    let mut bytes = Vec::new(alloc);
+    for &at in newlines {
+        bytes.resize(at, b'A')?;
+        bytes.push(b'\n')?;
+    }
+    bytes.resize(count, b'A')?;
+    Ok(bytes)
+}
 
 #[test]
 fn long_lines(rt: HostRuntime) {
     for &(newlines, lines) in LONG_INPUTS {
-        let mut bytes = [b'A'; 5000];
-        for &at in newlines {
-            bytes[at.min(4999)] = b'\n';
-        }
+        let bytes = long_input(rt.alloc(), 5000, newlines).expect(&rt, "memory");
         for piece in [1, 299, 4095, 4096, 5000] {
-            expect_input(&rt, rt.alloc(), &bytes, piece, lines);
+            expect_input(&rt, bytes.as_slice(), piece, lines);
+            expect_whole(&rt, rt.alloc(), bytes.as_slice(), piece, lines);
         }
     }
 }
@@ -118,22 +128,26 @@ const FAULTS: &[(&[u8], &[&[u8]], usize)] = &[
 
 const FAILED: Option<DeviceFault> = Some(DeviceFault::Read);
 
+// The fault of an input that fails, where all its lines are read at once.
+fn fault_of(alloc: Global, bytes: &[u8]) -> Option<DeviceFault> {
+    read_lines(alloc, &mut Device::new(scripted(bytes, 1, true))).err()
+}
+
+// How often a reader is read for these lines of an input that fails, and for its fault.
+fn calls_for(rt: &impl Abort, bytes: &[u8], lines: &[&[u8]]) -> usize {
+    let mut script = scripted(bytes, 4096, true);
+    let row = bytes.len();
+    expect_read(rt, row, &mut Device::new(&mut script), lines, FAILED);
+    script.calls
+}
+
 // A fault is answered after the lines that came complete, and again, without another read. All lines
 // at once are refused.
 #[test]
 fn faults(rt: HostRuntime) {
     for &(bytes, lines, calls) in FAULTS {
-        let mut script = scripted(bytes, 4096, true);
-        expect_read(
-            &rt,
-            bytes.len(),
-            &mut Device::new(&mut script),
-            lines,
-            FAILED,
-        );
-        let mut reader = Device::new(scripted(bytes, 1, true));
-        let fault = read_lines(rt.alloc(), &mut reader).err();
-        expect_same(&rt, "calls", (script.calls, fault), (calls, FAILED));
+        let found = (calls_for(&rt, bytes, lines), fault_of(rt.alloc(), bytes));
+        expect_eq(&rt, "calls", found, (calls, FAILED));
     }
 }
 
@@ -162,7 +176,7 @@ fn length_of_an_input(rt: HostRuntime) {
     for &(left, newline_at, lines, fault, taken) in LENGTHS {
         let mut input = long(left, newline_at);
         expect_read(&rt, taken, &mut Device::new(&mut input), lines, fault);
-        expect_same(&rt, "taken", input.given, taken);
+        expect_eq(&rt, "taken", input.given, taken);
     }
 }
 
@@ -179,21 +193,21 @@ fn length_of_a_whole_input(rt: HostRuntime) {
     for &(left, want, taken) in WHOLE_LENGTHS {
         let mut input = long(left, usize::MAX);
         let fault = read_lines(rt.alloc(), &mut Device::new(&mut input)).err();
-        expect_same(&rt, "input", (fault, input.given), (want, taken));
+        expect_eq(&rt, "input", (fault, input.given), (want, taken));
     }
 }
 
 // After so many lines that are asked for these are at hand, and then none.
 fn expect_ready<L: LineSource>(rt: &impl Abort, asked: usize, source: &mut L, lines: &[&[u8]]) {
     for _ in 0..asked {
-        expect_same(rt, "is read", source.next().is_ok(), true);
+        expect_eq(rt, "is read", source.next().is_ok(), true);
     }
     for &line in lines {
         let found = (asked, source.take_ready());
-        expect_same(rt, "ready", found, (asked, Some(line)));
+        expect_eq(rt, "ready", found, (asked, Some(line)));
     }
     for _ in 0..2 {
-        expect_same(rt, "none", (asked, source.take_ready()), (asked, None));
+        expect_eq(rt, "none", (asked, source.take_ready()), (asked, None));
     }
 }
 
@@ -203,13 +217,13 @@ fn expect_ready<L: LineSource>(rt: &impl Abort, asked: usize, source: &mut L, li
 const READY: &[(&[u8], usize, &[&[u8]], usize)] = &[
     (b"5\n7\n", 0, &[], 0),
     (b"5\n7\n", 1, &[b"7"], 1),
-    (b"5\n7\n\n 9 \n1", 1, &[b"7", b"", b" 9 "], 1),
+    (b"5\n7", 2, &[], 2),
+    (b"5\n7", 3, &[], 2),
     (b"5\n7\t\n9\n", 1, &[], 1),
     (b"5\n7\t\n9\n", 2, &[b"9"], 1),
     (b"5\n7\r\n9\n", 1, &[], 1),
     (b"5\n\x7f\n9\n", 1, &[], 1),
-    (b"5\n7", 2, &[], 2),
-    (b"5\n7", 3, &[], 2),
+    (b"5\n7\n\n 9 \n1", 1, &[b"7", b"", b" 9 "], 1),
     (b"5\n7\n9", 0, &[], 0),
     (b"5\n7\n9", 1, &[b"7"], 1),
     (b"5\n7\n9", 2, &[], 1),
@@ -218,38 +232,44 @@ const READY: &[(&[u8], usize, &[&[u8]], usize)] = &[
     (b"5\n7\n9", 5, &[], 2),
 ];
 
+// How often a reader is read where this is so.
+fn calls_when(rt: &impl Abort, bytes: &[u8], asked: usize, lines: &[&[u8]]) -> usize {
+    let mut script = scripted(bytes, 4096, false);
+    let mut reader = Device::new(&mut script);
+    expect_ready(rt, asked, &mut ReaderLines::new(&mut reader), lines);
+    drop(reader);
+    script.calls
+}
+
 #[test]
 fn lines_at_hand(rt: HostRuntime) {
     for &(bytes, asked, lines, calls) in READY {
-        let mut script = scripted(bytes, 4096, false);
-        let mut reader = Device::new(&mut script);
-        expect_ready(&rt, asked, &mut ReaderLines::new(&mut reader), lines);
-        drop(reader);
-        expect_same(&rt, "calls", (bytes, script.calls), (bytes, calls));
+        let found = calls_when(&rt, bytes, asked, lines);
+        expect_eq(&rt, "calls", (bytes, found), (bytes, calls));
     }
 }
 
-// How many bytes a line has, whether it is at hand, and the next line after that.
-const LONG_LINES: &[(usize, &[&[u8]], &[&[u8]])] = &[
-    (0, &[b""], &[LONG]),
-    (
-        255,
-        &[LONG],
-        &[b"AAAAAAAAAAAAAAAAAAAAAAAAAAAAAAAAAAAAAAAAAAA"],
-    ),
-    (256, &[], &[LONG]),
-];
+// Where an input of 300 bytes has a second newline, the line at hand, if there is one, and the next
+// line after that.
+const LONG_LINES: &[(usize, &[&[u8]], &[&[u8]])] = table! {
+    (1, &[b""], &[LONG]),
+    (256, &[LONG], &[b"AAAAAAAAAAAAAAAAAAAAAAAAAAAAAAAAAAAAAAAAAAA"]),
+    (257, &[], &[LONG]),
+};
+
+// After the first line of an input these lines are at hand, and then these are given.
+fn expect_at_hand(rt: &impl Abort, bytes: &[u8], ready: &[&[u8]], next: &[&[u8]]) {
+    let mut reader = Device::new(scripted(bytes, 4096, false));
+    let mut source = ReaderLines::new(&mut reader);
+    expect_ready(rt, 1, &mut source, ready);
+    expect_lines(rt, 1, &mut source, next);
+}
 
 // A line at hand has at most 255 bytes. One that is longer is still given, cut.
 #[test]
 fn long_lines_at_hand(rt: HostRuntime) {
-    for &(length, ready, next) in LONG_LINES {
-        let mut bytes = [b'A'; 300];
-        bytes[0] = b'\n';
-        bytes[length.min(298) + 1] = b'\n';
-        let mut reader = Device::new(scripted(&bytes, 4096, false));
-        let mut source = ReaderLines::new(&mut reader);
-        expect_ready(&rt, 1, &mut source, ready);
-        expect_lines(&rt, length, &mut source, next);
+    for &(newline, ready, next) in LONG_LINES {
+        let bytes = long_input(rt.alloc(), 300, &[0, newline]).expect(&rt, "memory");
+        expect_at_hand(&rt, bytes.as_slice(), ready, next);
     }
 }
