@@ -1,5 +1,6 @@
 -- This file answers what is left to prove of an IF that is done by its short form.
 use Rattle.std.proofs.Common.{◌≡◌, [], rules, subst, sym, to_z, of_z, w16}
+use Rattle.ptb_expr.specs.declared.short.ShortValue.{ShortValue}
 use Rattle.ptb_expr.specs.declared.short.ShortValue.TheVariants as values
 use Rattle.ptb_answers.specs.Outcome.{success}
 use Rattle.ptb_expr.specs.Short.{IsShortOf}
@@ -24,8 +25,9 @@ returns-in_ok-value-in-IfLessEqual-clause-done c p code there =
     let form = form_of p table code c.args.position.now.index e there
     (commands.IfLessEqual arm.left arm.right arm.other) arm.is in
     found_reaches p table code e r r (place_by e c.holds-holds-in-IfLessEqual.result) _
-    (c.follow_condition-in-IfLessEqual.ensures there form.next)
-    (c.holds-holds-in-IfLessEqual.ensures.done p table.commands e (values.LessEqual arm.left arm.right)
-    (code_from table e) arm.other r form (subst (λ v. run c.args.registers.now.store steps [] ≡ success v)
-    (sym own) (c.in_ok-value-in-IfLessEqual.ensures steps
-    (subst (λ v. IsShortOf (values.LessEqual arm.left v) steps) (sym same) form.value))))
+    (c.follow_condition-in-IfLessEqual.ensures there form.1.next)
+    (c.holds-holds-in-IfLessEqual.ensures.done p table.commands e (code_from table e) arm.other r form.1
+    (subst (λ v. run c.args.registers.now.store steps [] ≡ success v) (sym own)
+    (c.in_ok-value-in-IfLessEqual.ensures steps
+    (subst (λ v. IsShortOf (values.LessEqual arm.left v) steps) (sym same)
+    (subst (λ (f : ShortValue). IsShortOf f steps) form.0 form.1.value)))))
