@@ -2,13 +2,13 @@
 -- Main lemmas: `number_alone` and `number_alone_spelled`.
 use Rattle.std.proofs.Common.{◌≡◌, ℕ, ℤ, ◌+◌, ◌≤◌, ◌∙◌, Bool, true, false, List, refl, ap, eqb, leb}
 use Rattle.std.proofs.Common.{sym, subst, length, Option, Some, None, arith}
-use Rattle.std.specs.Prelude.{IsFalse, ◌&&◌, if◌then◌else◌}
+use Rattle.std.specs.Prelude.{IsFalse, IsNone, ◌&&◌, if◌then◌else◌, option_map}
 use Rattle.std.proofs.lemmas.Bool.{ne_eqb, and_parts, false≢true, leb-true, lt-leb}
 use Rattle.ptb_text.specs.declared.word.Table.TheVariants.{Functions}
 use Rattle.ptb_text.specs.Digits.{is_digit}
 use Rattle.ptb_text.specs.declared.word.Number.TheVariants.{Value}
 use Rattle.ptb_text.specs.Words.{past_blanks, next_byte_at, letter_at, number_at, is_number, is_over}
-use Rattle.ptb_text.specs.Words.{token_at, pair_at, word_at}
+use Rattle.ptb_text.specs.Words.{token_at, pair_at, word_at, is_letter}
 use Rattle.ptb_text.specs.Finding.{StandsNext, FindingLaws, is_next, past_byte}
 use Rattle.ptb_expr.specs.declared.operator.Operator.TheVariants.{Plus, Minus, Multiply, Divide}
 use Rattle.ptb_expr.specs.declared.operator.Operator.TheVariants.{GreaterEqual, NotEqual, Greater}
@@ -121,6 +121,29 @@ no_function_end t i s = s.word Functions refl
 pub no_function : (t : List ℕ) (i b : ℕ) → StandsNext t i (Some b) → (b ≡ 82 → ⊥) → (b ≡ 65 → ⊥) → (b ≡ 83 → ⊥)
     → word_at Functions t i ≡ None
 no_function t i b s r a z = s.word Functions (rw (ne_eqb b 82 r, ne_eqb b 65 a, ne_eqb b 83 z) refl)
+
+-- ---- letters
+
+pub no_letter_end : (t : List ℕ) (i : ℕ) → StandsNext t i None → letter_at t i ≡ None
+no_letter_end t i s = s.letter
+
+pub letter_next : (t : List ℕ) (i b : ℕ) (r : Option ℕ) → StandsNext t i (Some b)
+    → r ≡ (if is_letter b then Some b else None) → letter_at t i ≡ option_map (λ c. (c, past_byte t i)) r
+letter_next t i b r s e = s.letter ∙ go (is_letter b) ∙ ap (option_map (λ c. (c, past_byte t i))) (sym e) where
+  go : (x : Bool) → if◌then◌else◌ {A = Option (ℕ × ℕ)} x (Some (b, past_byte t i)) None
+      ≡ option_map (λ (c : ℕ). (c, past_byte t i)) (if◌then◌else◌ {A = Option ℕ} x (Some b) None)
+  go true = refl
+  go false = refl
+
+-- no function begins without a letter
+pub no_letter_no_function : (t : List ℕ) (i b : ℕ) (r : Option ℕ) → StandsNext t i (Some b)
+    → r ≡ (if is_letter b then Some b else None) → IsNone r → word_at Functions t i ≡ None
+no_letter_no_function t i b r s e none = go (is_letter b) refl (subst IsNone e none) where
+  go : (x : Bool) → is_letter b ≡ x → IsNone (if◌then◌else◌ {A = Option ℕ} x (Some b) None)
+      → word_at Functions t i ≡ None
+  go true h absent = absurd (cc absent)
+  go false h absent = no_function t i b s (λ d. false≢true (sym h ∙ ap is_letter d))
+      (λ d. false≢true (sym h ∙ ap is_letter d)) (λ d. false≢true (sym h ∙ ap is_letter d))
 
 -- ---- numbers
 

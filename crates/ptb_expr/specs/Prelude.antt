@@ -1,8 +1,8 @@
 -- This file passes on the definitions that the clauses of this crate cite most. It declares nothing.
 pub use Rattle.ptb_answers.specs.Outcome.{is_answer}
 pub use Rattle.ptb_text.specs.CursorState.{bytes_left}
-pub use Rattle.ptb_text.specs.Finding.{LiesAhead}
-pub use Rattle.ptb_text.specs.Words.{word_at, IsFunction}
+pub use Rattle.ptb_text.specs.Finding.{LiesAhead, StandsNext, past_byte}
+pub use Rattle.ptb_text.specs.Words.{word_at, IsFunction, letter_at, next_byte_at, token_at}
 pub use Rattle.ptb_text.specs.declared.word.Table.TheVariants.{Functions}
 pub use Rattle.ptb_expr.specs.ReadSteps.{Reads, Fails}
 pub use Rattle.ptb_expr.specs.Evaluate.{Evaluates, IsEvaluated, IsMarkedWithin, IsTarget, IsWhole, variable_target}
@@ -16,4 +16,5 @@ pub use Rattle.ptb_expr.specs.Store.{map_ok}
 pub use Rattle.ptb_expr.specs.Translation.{AreStepsOf, IsMalformed, IsVariableRead, IsVariable}
 pub use Rattle.ptb_expr.specs.TreeSteps.{plain_step, after_step, run}
 pub use Rattle.ptb_expr.specs.Value.{fault, in_range, truth, operation, negation, absolute_value, chosen, random_number}
-pub use Rattle.ptb_expr.specs.declared.fault.FaultKind.TheVariants.{How}
+pub use Rattle.ptb_expr.specs.declared.fault.FaultKind.TheVariants.{What, How}
+pub use Rattle.ptb_expr.specs.declared.step.Step.TheVariants.{Fail}

@@ -7,7 +7,7 @@ ghost use Rattle.ptb_text.specs.Prelude.{is_over, token_at, pair_at, letter_at, 
 ghost use Rattle.ptb_text.specs.Prelude.{quotation_of, is_text, IsPieceFrom, word_at, IsWordOf};
 
 use crate::letter::Letter;
-use crate::numerals::{after_blanks, digits_at};
+use crate::numerals::{after_blanks, after_rare_blanks, digits_at};
 use crate::spelling::{continues_word, table_word_at};
 use crate::word::{Number, Quoted, Table, Word};
 use std::marker::Model;
@@ -93,7 +93,10 @@ impl<'a> Cursor<'a> {
         requires { place ≤ length self.old.text }
         ensures { self.new ≡ record { text = self.old.text; place = place } }
     {
-        *self = Cursor::new(self.text, place);
+        let (next, byte) = after_rare_blanks(self.text, place);
+        self.place = place;
+        self.next = next;
+        self.byte = byte;
     }
 
     /// Whether only blanks follow from the place on.
@@ -112,9 +115,9 @@ impl<'a> Cursor<'a> {
         ensures place { self.new.place ≡ past_blanks self.old.text end }
         ensures from { end ≤ self.new.place }
     {
-        let (place, byte) = after_blanks(self.text, end);
-        self.place = place;
-        self.next = place;
+        let (next, byte) = after_rare_blanks(self.text, end);
+        self.place = next;
+        self.next = next;
         self.byte = byte;
     }
 
@@ -129,7 +132,8 @@ impl<'a> Cursor<'a> {
         ensures from { end ≤ self.new.place }
     {
         if byte == b' ' {
-            self.pass_to(end);
+            *self = Cursor::new(self.text, end);
+            self.place = self.next;
             return;
         }
         self.place = end;

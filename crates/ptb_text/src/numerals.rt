@@ -26,6 +26,35 @@ pub(crate) fn after_blanks(text: &[u8], place: usize) -> (usize, u8)
     after_more_blanks(text, place + 1)
 }
 
+/// The same, but blanks are passed by a call. So what takes one thing after another from a text stays small.
+#[inline(always)]
+#[tactic(auto, using(crate::proofs::Blanks::past_blanks_more, crate::proofs::Blanks::past_blanks_none))]
+pub(crate) fn after_rare_blanks(text: &[u8], place: usize) -> (usize, u8)
+    requires { place ≤ length text.now }
+    ensures value { result.0 ≡ past_blanks text.now place }
+    ensures from { place ≤ result.0 }
+    ensures within { result.0 ≤ length text.now }
+    ensures byte { result.1 ≡ get_or text.now result.0 0 }
+{
+    let byte = byte_at(text, place);
+    if byte != b' ' {
+        return (place, byte);
+    }
+    after_blanks_apart(text, place)
+}
+
+// As `after_blanks`. Not inlined.
+#[inline(never)]
+fn after_blanks_apart(text: &[u8], place: usize) -> (usize, u8)
+    requires { place ≤ length text.now }
+    ensures value { result.0 ≡ past_blanks text.now place }
+    ensures from { place ≤ result.0 }
+    ensures within { result.0 ≤ length text.now }
+    ensures byte { result.1 ≡ get_or text.now result.0 0 }
+{
+    after_blanks(text, place)
+}
+
 // The byte at `place`: 0 at the end of the text.
 #[inline(always)]
 fn byte_at(text: &[u8], place: usize) -> u8
