@@ -243,7 +243,9 @@ impl Copies {
         if reached.taken == expected {
             return;
         }
-        self.add(alloc, machine, reached);
+        // a copy, so that it lies in memory only where a copy of the machine is kept
+        let held = reached;
+        self.add(alloc, machine, held);
     }
 
     // Adds a copy of a machine, if there is memory for it. Not inlined, since most runs keep none: the loop of a
@@ -276,6 +278,7 @@ impl Copies {
     /// # Errors
     ///
     /// Where that copy is refused memory.
+    #[inline(always)]
     pub(crate) fn go_back(
         &mut self,
         alloc: Global,
