@@ -7,7 +7,7 @@ pub use Rattle.ptb_expr.specs.declared.short.ShortValue.{ShortValue}
 pub use Rattle.ptb_text.specs.Finding.{LiesAhead}
 pub use Rattle.ptb_text.specs.Statements.{Statements, StoredProgram, size_of}
 pub use Rattle.ptb_text.specs.Words.{is_over}
-pub use Rattle.ptb_code.specs.State.{statement, first_state, Place}
+pub use Rattle.ptb_code.specs.State.{statement, first_state, next_command, Place}
 pub use Rattle.ptb_command.specs.Act.{ending_of, report_bytes}
 pub use Rattle.ptb_code.specs.Code.{steps_at, Code}
 pub use Rattle.ptb_command.specs.CommandIo.{SameBorrows}
