@@ -4,6 +4,7 @@ ghost use Rattle.std.specs.Prelude.{◌≡◌, ◌≢◌, [], List, ℤ, IfErr, 
 ghost use Rattle.ptb_answers.specs.declared.form.Marked.{Marked};
 ghost use Rattle.ptb_options.specs.AnswerLists.{HasNoAnswers, IsListFault, IsMisspelled};
 ghost use Rattle.ptb_options.specs.AnswerLists.{SpellsAnswers, SpellsList};
+ghost use Rattle.ptb_options.specs.ListMistakes.{IsListOf};
 
 use crate::items::ListItem;
 use crate::mistakes::{Bounds, list_mistake};
@@ -73,10 +74,7 @@ pub fn parse_list(alloc: Global, text: &str) -> Result<MarkedAnswers, UsageFault
     ensures fault { IfErr result IsListFault }
     ensures one { (a b : List Marked) → SpellsList text.now a → SpellsList text.now b → a ≡ b }
 {
-    if list_mistake(text, Bounds::Allowed).is_some() {
-        return Err(UsageFault::BadList);
-    }
-    Ok(parse_items::<Marked>(alloc, text)?.into())
+    parse_as::<Marked>(alloc, text, Bounds::Allowed)
 }
 
 /// The answers that a text spells: a list as [`parse_list`] reads it, without bounds.
@@ -93,10 +91,27 @@ pub fn parse_answers(alloc: Global, text: &str) -> Result<Answers, UsageFault>
     ensures fault { IfErr result IsListFault }
     ensures one { (a b : List ℤ) → SpellsAnswers text.now a → SpellsAnswers text.now b → a ≡ b }
 {
-    if list_mistake(text, Bounds::Refused).is_some() {
+    parse_as::<i16>(alloc, text, Bounds::Refused)
+}
+
+// The list of items of this kind that a text spells. Whether an item may have a bound is said twice:
+// by the kind, and by `bounds`, for which the whole text is looked at before memory is taken.
+fn parse_as<T: ListItem>(
+    alloc: Global,
+    text: &str,
+    bounds: Bounds,
+) -> Result<ItemList<T>, UsageFault>
+    ensures ok { IfOk result (λ items. SpellsList text.now (map T.marked items)) }
+    ensures bad { result ≡ Err UsageFault.BadList → IsListOf bounds text.now
+        → (items : List T) → SpellsList text.now (map T.marked items) → ⊥ }
+    ensures memory { result ≡ Err UsageFault.Memory
+        → IsListOf bounds text.now × (text.now ≢ codes "none") }
+    ensures fault { IfErr result IsListFault }
+{
+    if list_mistake(text, bounds).is_some() {
         return Err(UsageFault::BadList);
     }
-    Ok(parse_items::<i16>(alloc, text)?.into())
+    Ok(parse_items::<T>(alloc, text)?.into())
 }
 
 // The items that a text spells. Memory is taken only for a text that isn't `none`.

@@ -1,5 +1,5 @@
 -- This file answers what is left to prove of `list_mistake`.
-use Rattle.std.proofs.Common.{◌≡◌, ◌∙◌, ap, arith, length-append}
+use Rattle.std.proofs.Common.{◌≡◌, arith, length-append}
 use Rattle.std.specs.Prelude.{◌==◌, ◌∷◌, []}
 use Rattle.std.specs.List.{slice_split}
 use Rattle.std.specs.Str.Pattern.{FindsChar}
