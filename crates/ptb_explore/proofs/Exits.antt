@@ -31,6 +31,11 @@ pub on_ok_always : {T E Q : Type 0} (r : Result T E) → Q → OnOk r Q
 on_ok_always (Ok x) q = q
 on_ok_always (Err e) q = tt
 
+-- two facts of a result give a third
+pub on_ok_both : {T E P Q R : Type 0} (r : Result T E) → (P → Q → R) → OnOk r P → OnOk r Q → OnOk r R
+on_ok_both (Ok x) f p q = f p q
+on_ok_both (Err e) f p q = tt
+
 -- a fault is no result
 pub err_no_ok : {T E P : Type 0} {x : T} {e : E} → ◌≡◌ {A = Result T E} (Err e) (Ok x) → P
 err_no_ok h = absurd cc

@@ -13,6 +13,7 @@ pub mod Chances
 pub mod Listing
 pub mod Explorations
 pub mod LentReports
+pub mod Openings
 pub mod Laws
 pub mod Beginnings
 pub mod Sampling

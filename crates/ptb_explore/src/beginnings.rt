@@ -1,10 +1,10 @@
 // This file writes the lists that split all runs of a program, by `write_beginnings`.
 
-ghost use Rattle.std.specs.Prelude.{◌≡◌, ℕ, Ok, None, [], false, IfOk, OnErr, IsErrOf};
-ghost use Rattle.ptb_explore.specs.Prelude.{Answers, bounds_of, HasFailed, answers_in, bounds_in, beginning_line};
+ghost use Rattle.std.specs.Prelude.{◌≡◌, Ok, None, [], false, IfOk, OnErr};
+ghost use Rattle.ptb_explore.specs.Prelude.{Answers, bounds_of, answers_in, bounds_in, beginning_line};
 ghost use Rattle.ptb_explore.specs.Prelude.{split_play, stopped, IsSameSearch, MovesTo, AreCopiesAt, game_of};
 ghost use Rattle.ptb_explore.specs.Prelude.{FailsToWrite, FailsOnlyToWrite, NextWrites, WritesRuns, IsPosition};
-ghost use Rattle.ptb_explore.specs.Prelude.{front_at, At, IsLast, Start, runs_left};
+ghost use Rattle.ptb_explore.specs.Prelude.{front_at, At, IsLast, Start, runs_left, FailsAfterSome, FailsOnlyAfterSome};
 
 use crate::beginning_search::find_beginning;
 use crate::fault::ExploreFault;
@@ -175,17 +175,15 @@ pub fn write_beginnings<W: Write>(
     form: Form,
     writer: &mut W,
 ) -> Result<u64, ExploreFault>
-    ensures same { beginnings.new ≡ record beginnings.old { front = beginnings.new.front } }
+    ensures same { IsSameSearch beginnings.old beginnings.new }
     ensures writes { WritesRuns (stopped beginnings.old.most (split_play beginnings.old)) []
         (beginning_line form (split_play beginnings.old))
         (runs_left (stopped beginnings.old.most (split_play beginnings.old)) beginnings.old.most []
         beginnings.old.front None)
         beginnings.old.front beginnings.new.front
         (W.contents writer.old) (W.contents writer.new) result }
-    ensures failed { (n : ℕ) → IsErrOf result (ExploreFault.Write n)
-        → HasFailed (W.failures writer.old) (W.failures writer.new) }
-    ensures unfailed { ((n : ℕ) → ¬ IsErrOf result (ExploreFault.Write n))
-        → W.failures writer.new ≡ W.failures writer.old }
+    ensures failed { FailsAfterSome result (W.failures writer.old) (W.failures writer.new) }
+    ensures unfailed { FailsOnlyAfterSome result (W.failures writer.old) (W.failures writer.new) }
 {
     run_laws();
     let mut written: u64 = 0;

@@ -5,7 +5,7 @@
 //! `ptb_numbers`, `ptb_answers`, `ptb_text`, `arrayvec`, `itoa` and `thiserror`, and on a
 //! definition of `rand_pcg`. The crate above may rely on `Explorer::start`, `after` and
 //! `after_marked` (where a listing begins, or why the answers are no run), on `under` and
-//! `after_under` (the same for the runs that begin with a list of answers), on `go_to` (the run to
+//! `open` (the same for the runs that begin with a list of answers), on `go_to` (the run to
 //! which an explorer moves), on `write_all_runs` (the reports of the runs that are left), on
 //! `Beginnings::start` and `write_beginnings` (the lists of answers that split the runs), on
 //! `write_sample` (the reports of the runs that a seed draws), on `ReportWriter::write` (a writer
@@ -44,5 +44,6 @@ pub use listing::write_all_runs;
 pub use mismatch::{Mismatch, mismatch_laws};
 pub use ptb_answers::{Asked, Form, Marked};
 pub use report::{Report, word};
+pub use report_text::Parts;
 pub use report_writer::ReportWriter;
 pub use sampler::{Sample, write_sample};

@@ -1,8 +1,9 @@
 // This file writes the reports of all runs.
 
-ghost use Rattle.std.specs.Prelude.{◌≡◌, ◌≤◌, ℕ, IsErrOf};
-ghost use Rattle.ptb_explore.specs.Prelude.{HasFailed, play_of, most_of, IsSameListing, less_one, NextWrites};
-ghost use Rattle.ptb_explore.specs.Prelude.{WritesRuns, FailsToWrite, FailsOnlyToWrite, report, runs_left};
+ghost use Rattle.std.specs.Prelude.{◌≡◌, ◌≤◌};
+ghost use Rattle.ptb_explore.specs.Prelude.{play_of, most_of, IsSameListing, less_one, report, runs_left};
+ghost use Rattle.ptb_explore.specs.Prelude.{NextWrites, WritesRuns, FailsToWrite, FailsOnlyToWrite};
+ghost use Rattle.ptb_explore.specs.Prelude.{FailsAfterSome, FailsOnlyAfterSome};
 
 use crate::explorer::Explorer;
 use crate::fault::ExploreFault;
@@ -62,11 +63,7 @@ pub fn write_all_runs<W: Write>(
     form: Form,
     writer: &mut W,
 ) -> Result<u64, ExploreFault>
-    ensures same { explorer.new ≡ record explorer.old {
-      front = explorer.new.front;
-      kept = explorer.new.kept;
-      played = explorer.new.played;
-    } }
+    ensures same { IsSameListing explorer.old explorer.new }
     ensures rises { explorer.old.played ≤ explorer.new.played }
     ensures writes { WritesRuns (play_of explorer.old) explorer.old.under
         (report form (play_of explorer.old))
@@ -74,10 +71,8 @@ pub fn write_all_runs<W: Write>(
         explorer.old.front first)
         explorer.old.front explorer.new.front
         (W.contents writer.old) (W.contents writer.new) result }
-    ensures failed { (n : ℕ) → IsErrOf result (ExploreFault.Write n)
-        → HasFailed (W.failures writer.old) (W.failures writer.new) }
-    ensures unfailed { ((n : ℕ) → ¬ IsErrOf result (ExploreFault.Write n))
-        → W.failures writer.new ≡ W.failures writer.old }
+    ensures failed { FailsAfterSome result (W.failures writer.old) (W.failures writer.new) }
+    ensures unfailed { FailsOnlyAfterSome result (W.failures writer.old) (W.failures writer.new) }
 {
     run_laws();
     let mut reports = ReportWriter::new();

@@ -78,6 +78,10 @@ impl<'a> Runner<'a> {
 }
 
 impl<'a> Explorer<'a> {
+    ghost use Rattle.std.specs.Prelude.{IfSome, option_copied};
+    ghost use Rattle.ptb_explore.specs.Explorations.{AreKeptAt};
+    ghost use Rattle.ptb_explore.specs.Openings.{first_front, IsRunUnder, IsRefusedRun, IsPlayedBefore, IsPlayedFor};
+
     /// An explorer before the first run of a program with these input lines. Each run is played by
     /// these rules.
     ///
@@ -254,51 +258,79 @@ impl<'a> Explorer<'a> {
         Explorer::start(alloc, program, lines, rules)?.go_to(list)
     }
 
-    /// An explorer of the runs that begin with the answers of a list, which is at the run of the
-    /// answers of a second one. Some of these may have their bounds; the bounds of the first list are
-    /// not looked at.
+    /// An explorer of the runs that begin with the answers of `under`, of all runs where that is empty:
+    /// before the first of them, or at the run `after`, if one is named. Some of the answers of both
+    /// lists may have their bounds. `under` is looked at first; nothing is played for an empty one.
     ///
     /// # Errors
     ///
-    /// [`OpenFault::NotARun`] with the reason where the answers of the second list do not begin with
-    /// those of the first, or are no run, or a bound that is stated in the second list is not that of
-    /// its question; [`OpenFault::Memory`] where a growth was refused memory, never where the second
-    /// list does not begin with the first.
-    pub fn after_under(
+    /// [`OpenFault::NoBeginning`] with the reason where no run begins with `under`, as in
+    /// [`under`](Explorer::under); [`OpenFault::NotARun`] with the reason where `after` is no run of
+    /// these, as in [`go_to`](Explorer::go_to); [`OpenFault::Memory`] where a growth was refused memory.
+    pub fn open(
         alloc: Global,
         program: &'a Program,
         lines: &'a [Line],
         rules: Rules,
         under: &[Marked],
-        list: &[Marked],
+        after: Option<&[Marked]>,
     ) -> Result<Explorer<'a>, OpenFault>
-        ensures after { IfOk result (λ e. e ≡ exploration program.now lines.now rules
-            (answers_of under.now) (At (answers_of list.now)) e.kept e.played) }
-        ensures run { OnOk result (IsMarkedRun (play program.now lines.now rules) list.now) }
-        ensures begins { OnOk result
-            (begins_with (answers_of list.now) (answers_of under.now) ≡ true) }
-        ensures kept { IfOk result (λ e. AreBeginnings 0 (answers_of list.now) e.kept) }
-        ensures played { IfOk result (λ e.
-            IsPlayed (play program.now lines.now rules) (answers_of list.now) e.played) }
+        ensures opened { IfOk result (λ e. e ≡ exploration program.now lines.now rules
+            (answers_of under.now) (first_front (option_copied after.entry)) e.kept e.played) }
+        ensures beginning { OnOk result
+            (IsMarkedBeginning (play program.now lines.now rules) under.now) }
+        ensures run { OnOk result (IfSome (option_copied after.entry)
+            (IsRunUnder (play program.now lines.now rules) under.now)) }
+        ensures kept { IfOk result (λ e. AreKeptAt (first_front (option_copied after.entry)) e.kept) }
+        ensures played { IfOk result (λ e. IsPlayedFor (play program.now lines.now rules) under.now
+            (option_copied after.entry) e.played) }
+        ensures no_beginning { (m : Mismatch) → IsErrOf result (OpenFault.NoBeginning m)
+            → IsMarkedBeginning (play program.now lines.now rules) under.now → ⊥ }
         ensures not_a_run { (m : Mismatch) → IsErrOf result (OpenFault.NotARun m)
-            → IsMarkedRun (play program.now lines.now rules) list.now
-            → begins_with (answers_of list.now) (answers_of under.now) ≡ true → ⊥ }
-        ensures mismatch { (m : Mismatch) → IsErrOf result (OpenFault.NotARun m)
-            → IsRunMismatch (play program.now lines.now rules) under.now list.now m }
-        ensures kind { (m : Mismatch) → ¬ IsErrOf result (OpenFault.NoBeginning m) }
-        ensures memory { IsErrOf result OpenFault.Memory
-            → begins_with (answers_of list.now) (answers_of under.now) ≡ true }
+            → IsMarkedBeginning (play program.now lines.now rules) under.now × IfSome (option_copied after.entry)
+            (λ list. IsRunUnder (play program.now lines.now rules) under.now list → ⊥) }
+        ensures mismatch { (m : Mismatch) → IsErrOf result (OpenFault.NoBeginning m)
+            → IsItemMismatch (play program.now lines.now rules) under.now m }
+        ensures run_mismatch { (m : Mismatch) → IsErrOf result (OpenFault.NotARun m)
+            → IsRefusedRun (play program.now lines.now rules) under.now (option_copied after.entry) m }
 
         // Laws of the definitions.
         ensures laws { TreeLaws (play program.now lines.now rules)
             (most_answers program.now lines.now rules.limit) }
     {
         run_laws();
-        if !items_begin_with(list, under) {
-            return Err(OpenFault::NotARun(Mismatch::NotUnder));
+        let explorer = Explorer::before(alloc, program, lines, rules, under)?;
+        match after {
+            None => Ok(explorer),
+            Some(list) => explorer.go_to(list),
         }
-        let mut explorer = Explorer::after_marked(alloc, program, lines, rules, list)?;
-        explorer.under = copied(alloc, under)?;
-        Ok(explorer)
+    }
+
+    // An explorer before the first of the runs that begin with the answers of a list. Nothing is played
+    // for an empty one, with which every run begins.
+    fn before(
+        alloc: Global,
+        program: &'a Program,
+        lines: &'a [Line],
+        rules: Rules,
+        list: &[Marked],
+    ) -> Result<Explorer<'a>, OpenFault>
+        ensures before { IfOk result (λ e.
+            e ≡ exploration program.now lines.now rules (answers_of list.now) Start [] e.played) }
+        ensures beginning { OnOk result
+            (IsMarkedBeginning (play program.now lines.now rules) list.now) }
+        ensures played { IfOk result (λ e.
+            IsPlayedBefore (play program.now lines.now rules) list.now e.played) }
+        ensures no_beginning { (m : Mismatch) → IsErrOf result (OpenFault.NoBeginning m)
+            → IsMarkedBeginning (play program.now lines.now rules) list.now → ⊥ }
+        ensures mismatch { (m : Mismatch) → IsErrOf result (OpenFault.NoBeginning m)
+            → IsItemMismatch (play program.now lines.now rules) list.now m }
+        ensures kind { (m : Mismatch) → ¬ IsErrOf result (OpenFault.NotARun m) }
+    {
+        run_laws();
+        if list.is_empty() {
+            return Ok(Explorer::start(alloc, program, lines, rules)?);
+        }
+        Explorer::under(alloc, program, lines, rules, list)
     }
 }

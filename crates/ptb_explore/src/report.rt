@@ -3,6 +3,7 @@
 ghost use Rattle.std.specs.Prelude.{◌≡◌, []};
 ghost use Rattle.ptb_explore.specs.Prelude.{asked_items, ending_word, report_text, WritesText};
 
+use crate::report_text::Parts;
 use crate::report_writer::ReportWriter;
 use ptb_answers::{Asked, Form};
 use ptb_machine::Ending;
@@ -51,14 +52,14 @@ impl Report {
             (W.contents writer.old) (W.contents writer.new)
             (W.failures writer.old) (W.failures writer.new) result }
     {
-        reports.write(
-            writer,
+        let parts = Parts {
             form,
-            &self.asked,
-            word(self.ending),
-            self.steps,
-            &self.transcript,
-        )
+            asked: &self.asked,
+            word: word(self.ending),
+            steps: self.steps,
+            transcript: &self.transcript,
+        };
+        reports.write(writer, &parts)
     }
 }
 

@@ -90,17 +90,17 @@ fn put_answers<W: Write>(
 
 /// What the report of a run has.
 #[derive(Clone, Copy)]
-pub(crate) struct Parts<'a> {
+pub struct Parts<'a> {
     /// How it has the answers.
-    pub(crate) form: Form,
+    pub form: Form,
     /// The answers that the run took, each with its bound.
-    pub(crate) asked: &'a [Asked],
+    pub asked: &'a [Asked],
     /// The word of its ending.
-    pub(crate) word: &'a [u8],
+    pub word: &'a [u8],
     /// How many commands it began.
-    pub(crate) steps: u32,
+    pub steps: u32,
     /// All that it showed.
-    pub(crate) transcript: &'a [u8],
+    pub transcript: &'a [u8],
 }
 
 /// Writes the report of a run piece by piece, whatever its length.

@@ -3,7 +3,7 @@
 ghost use Rattle.std.specs.Prelude.{◌≡◌, ◌==◌, ◌+◌, ◌<◌, ◌≤◌, [], ◌∷◌, ◌++◌, length, take, codes, decimal};
 ghost use Rattle.std.specs.Prelude.{IfErr, OnOk, OnErr, IsTrue, IsFalse, if◌then◌else◌, ℤ, Option, None, Some};
 ghost use Rattle.ptb_explore.specs.Prelude.{signed_decimal, Appends, TakesSome, HasFailed, in_form, item_text};
-ghost use Rattle.ptb_explore.specs.Prelude.{asked_items, field, report_ending, report_text, text_of, begun, item_of};
+ghost use Rattle.ptb_explore.specs.Prelude.{asked_items, field, report_ending, text_of, begun, item_of};
 ghost use Rattle.ptb_explore.specs.Prelude.{items_of, AreEnds, BeginsWith};
 
 use crate::kept_items::{KeptItem, KeptItems, MOST_ITEMS};
@@ -326,35 +326,20 @@ impl ReportWriter {
     ///
     /// [`DeviceFault::Write`] where the writer failed. A prefix of the report may have been taken then.
     #[inline(always)]
-    pub fn write<W: Write>(
-        &mut self,
-        out: &mut W,
-        form: Form,
-        asked: &[Asked],
-        word: &[u8],
-        steps: u32,
-        transcript: &[u8],
-    ) -> Result<(), DeviceFault>
-        ensures ok { OnOk result (Appends (W.contents out.old) (W.contents out.new)
-            (report_text (asked_items form asked.now) word.now steps transcript.now)) }
-        ensures fault { OnErr result (TakesSome (W.contents out.old) (W.contents out.new)
-            (report_text (asked_items form asked.now) word.now steps transcript.now)) }
+    pub fn write<W: Write>(&mut self, out: &mut W, report: &Parts) -> Result<(), DeviceFault>
+        ensures ok { OnOk result
+            (Appends (W.contents out.old) (W.contents out.new) (text_of report.now)) }
+        ensures fault { OnErr result
+            (TakesSome (W.contents out.old) (W.contents out.new) (text_of report.now)) }
         ensures failed { OnErr result (HasFailed (W.failures out.old) (W.failures out.new)) }
         ensures kind { IfErr result (λ fault. fault ≡ DeviceFault.Write) }
         ensures unfailed { OnOk result (W.failures out.new ≡ W.failures out.old) }
     {
-        let report = Parts {
-            form,
-            asked,
-            word,
-            steps,
-            transcript,
-        };
-        if self.gather(&report) {
+        if self.gather(report) {
             return out.write_all(self.text.as_slice());
         }
         // copied, so that it lies in memory for long reports alone
-        let pieces = report;
+        let pieces = *report;
         write_in_pieces(out, &pieces)
     }
 }

@@ -1,13 +1,14 @@
 // This file writes the reports of a sample: runs that the words of a generator draw, one after the other.
 
-ghost use Rattle.std.specs.Prelude.{◌≡◌, ℕ, ℤ, List, Option, [], length, false, IfOk, IsErrOf, OnOk};
-ghost use Rattle.ptb_explore.specs.Prelude.{HasFailed, answers_by, sampled_runs, generator_after, generator_of};
+ghost use Rattle.std.specs.Prelude.{◌≡◌, ℕ, ℤ, List, Option, [], length, false, IfOk, OnOk};
+ghost use Rattle.ptb_explore.specs.Prelude.{answers_by, sampled_runs, generator_after, generator_of};
 ghost use Rattle.ptb_explore.specs.Prelude.{Represents, first_state, play, most_answers, FailsToWrite};
 ghost use Rattle.ptb_explore.specs.Prelude.{FailsOnlyToWrite, FailsAfterSome, FailsOnlyAfterSome, report, PlaysDrawn};
 ghost use Rattle.ptb_explore.specs.Prelude.{SampleLaws, WritesRun, WritesSample};
 
 use crate::fault::{ExploreFault, memory_refusal};
 use crate::report::word;
+use crate::report_text::Parts;
 use crate::report_writer::ReportWriter;
 use ptb_answers::{Form, Seeded};
 use ptb_machine::{Ending, Line, Lines, Machine, Player, Rules, TextScreen, run_laws};
@@ -128,15 +129,14 @@ fn write_run<W: Write>(
     let Ok(ending) = play_next(alloc, sampler, lines, rules) else {
         return Err(DeviceFault::Memory);
     };
-    let chooser = &sampler.chooser;
-    match sampler.reports.write(
-        writer,
+    let report = Parts {
         form,
-        chooser.asked(),
-        word(ending),
-        sampler.machine.steps(),
-        sampler.screen.bytes(),
-    ) {
+        asked: sampler.chooser.asked(),
+        word: word(ending),
+        steps: sampler.machine.steps(),
+        transcript: sampler.screen.bytes(),
+    };
+    match sampler.reports.write(writer, &report) {
         Ok(()) => {
             sampler.chooser.forget();
             Ok(())
@@ -217,10 +217,8 @@ pub fn write_sample<W: Write>(
         (sampled_runs (most_answers program.now lines.now rules.limit) (play program.now lines.now rules)
         (generator_of sample.seed) sample.runs)
         (W.contents writer.old) (W.contents writer.new) result }
-    ensures failed { (n : ℕ) → IsErrOf result (ExploreFault.Write n)
-        → HasFailed (W.failures writer.old) (W.failures writer.new) }
-    ensures unfailed { ((n : ℕ) → ¬ IsErrOf result (ExploreFault.Write n))
-        → W.failures writer.new ≡ W.failures writer.old }
+    ensures failed { FailsAfterSome result (W.failures writer.old) (W.failures writer.new) }
+    ensures unfailed { FailsOnlyAfterSome result (W.failures writer.old) (W.failures writer.new) }
 
     // Which runs a sample has.
     ensures laws { SampleLaws (play program.now lines.now rules)

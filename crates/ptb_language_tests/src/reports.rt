@@ -2,7 +2,7 @@
 // to a device that has no room for all of a report.
 
 use crate::shared::expect_same;
-use ptb_explore::ReportWriter;
+use ptb_explore::{Parts, ReportWriter};
 use ptb_expr::{Asked, Form};
 use ptb_text::{ByteSink, Device, DeviceFault};
 use std::alloc::{AllocError, Global};
@@ -48,7 +48,14 @@ fn write_to<T: ByteSink + Drop>(
         let (answer, bound) = (answers[k], bounds[k]);
         asked[k] = Asked { answer, bound };
     }
-    reports.write(&mut out, form, &asked[..count], word, steps, shown)
+    let report = Parts {
+        form,
+        asked: &asked[..count],
+        word,
+        steps,
+        transcript: shown,
+    };
+    reports.write(&mut out, &report)
 }
 
 // Writes a report into this room.
@@ -325,7 +332,14 @@ fn written(
     transcript.resize(shown, b'A')?;
     let mut taken = Vec::new(alloc);
     let mut out = Device::new(&mut taken);
-    let done = reports.write(&mut out, Form::One, &asked, b"END", 7, &transcript);
+    let report = Parts {
+        form: Form::One,
+        asked: &asked,
+        word: b"END",
+        steps: 7,
+        transcript: &transcript,
+    };
+    let done = reports.write(&mut out, &report);
     match done {
         Ok(()) => Ok(taken),
         Err(_) => Err(AllocError),

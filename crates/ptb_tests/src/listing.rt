@@ -68,7 +68,7 @@ fn explorer_of<'a>(
             Explorer::under(alloc, program, lines, rules, list).map_err(why_not_opened)
         }
         Runs::UnderAfter(list, run) => {
-            Explorer::after_under(alloc, program, lines, rules, list, run).map_err(why_not_opened)
+            Explorer::open(alloc, program, lines, rules, list, Some(run)).map_err(why_not_opened)
         }
     }
 }

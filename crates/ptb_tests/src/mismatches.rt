@@ -55,17 +55,17 @@ fn beginning_mismatch(
     }
 }
 
-// Why a list is no run that begins with another; `None` where it is one.
+// Why a list is no run that begins with another, or no run begins with that one; `None` where it is one.
 fn run_mismatch(
     alloc: Global,
     program: &Program,
     under: &[Marked],
     list: &[Marked],
 ) -> Result<Option<Mismatch>, AllocError> {
-    match Explorer::after_under(alloc, program, &[], plain_rules(10000), under, list) {
+    match Explorer::open(alloc, program, &[], plain_rules(10000), under, Some(list)) {
         Ok(_) => Ok(None),
-        Err(OpenFault::NotARun(mismatch)) => Ok(Some(mismatch)),
-        Err(_) => Err(AllocError),
+        Err(OpenFault::NotARun(mismatch) | OpenFault::NoBeginning(mismatch)) => Ok(Some(mismatch)),
+        Err(OpenFault::Memory) => Err(AllocError),
     }
 }
 
@@ -125,7 +125,7 @@ fn items_that_do_not_fit(rt: HostRuntime) -> Result<(), Fail> {
 // A run begins with these lists: they are runs, or an item is missing, or they begin otherwise.
 #[test]
 fn items_that_fit(rt: HostRuntime) -> Result<(), Fail> {
-    let rows: [(&[Marked], &[Marked], Option<Mismatch>); 9] = [
+    let rows: [(&[Marked], &[Marked], Option<Mismatch>); 11] = [
         (&[], &[], Some(missing(1, 2))),
         (&[], &[TWO], Some(missing(2, 3))),
         (&[], &[ONE], None),
@@ -134,8 +134,10 @@ fn items_that_fit(rt: HostRuntime) -> Result<(), Fail> {
         (&[TWO], &[TWO, ONE], None),
         (&[TWO], &[ONE], Some(Mismatch::NotUnder)),
         (&[TWO, ONE], &[TWO, THREE], Some(Mismatch::NotUnder)),
-        // the bounds of the list that it begins with are not checked
-        (&[TWO_OF_3], &[TWO, ONE], None),
+        // the list that it begins with is looked at first, with its bounds
+        (&[TWO_OF_2], &[TWO, ONE], None),
+        (&[TWO_OF_3], &[TWO, ONE], Some(other_bound(1, 3, 2))),
+        (&[THREE], &[ONE], Some(out_of_range(1, 3, 2))),
     ];
     let (program, _) = loaded(rt.alloc(), BRANCHES, "")?;
     for (under, list, wanted) in rows {
@@ -163,7 +165,7 @@ fn answers_that_are_no_run(rt: HostRuntime) -> Result<(), Fail> {
     Ok(())
 }
 
-// How a list begins is looked at before its items are: nothing is played then.
+// How a list begins is looked at before its items are.
 #[test]
 fn lists_that_begin_otherwise(rt: HostRuntime) -> Result<(), Fail> {
     let rows: [(&[Marked], &[Marked]); 4] = [
@@ -196,9 +198,16 @@ fn expect_both_or_refused(rt: &impl Abort, alloc: Global, program: &Program) {
     expect_or_refused(rt, beginning, out_of_range(2, 4, 3));
     let run = run_mismatch(alloc, program, &[TWO], &[TWO]);
     expect_or_refused(rt, run, missing(2, 3));
-    // no memory is wanted here
-    let other = run_mismatch(alloc, program, &[TWO], &[ONE]);
-    expect_same(rt, "mismatch", other, Ok(Some(Mismatch::NotUnder)));
+    if let Ok(explorer) = Explorer::under(alloc, program, &[], plain_rules(10000), &[TWO]) {
+        // no memory is wanted here
+        let other = explorer.go_to(&[ONE]).err();
+        expect_same(
+            rt,
+            "fault",
+            other,
+            Some(OpenFault::NotARun(Mismatch::NotUnder)),
+        );
+    }
 }
 
 // Passes whichever of its allocations is refused.
