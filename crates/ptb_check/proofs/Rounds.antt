@@ -3,7 +3,7 @@
 use Rattle.std.proofs.Common.{◌≡◌, ◌∙◌, ℕ, zero, suc, ◌+◌, ◌<◌, Bool, true, false, List, [], ◌∷◌}
 use Rattle.std.proofs.Common.{◌++◌, length, drop, Option, Some, None, ℤ, sym, ap, ap₂, refl, arith}
 use Rattle.std.proofs.Common.{add-one}
-use Rattle.std.specs.Prelude.{flat_map, slice_get, unsigned_abs, IsTrue, IsFalse}
+use Rattle.std.specs.Prelude.{flat_map, slice_get, unsigned_abs}
 use Rattle.ptb_text.specs.Words.{is_over}
 use Rattle.ptb_text.specs.Statements.{Statements}
 use Rattle.ptb_expr.specs.Reading.{Reading, Whole, Malformed}
@@ -17,7 +17,7 @@ use Rattle.ptb_check.specs.Mistakes.{Mistake, command_mistake, mistake_in, state
 -- ---- the commands of a statement
 
 -- where the next command begins, if there is one
-abbrev left_at : List ℕ → Option ℕ → List Command
+abbrev pub left_at : List ℕ → Option ℕ → List Command
 left_at t None = []
 left_at t (Some j) = commands_from t j
 
@@ -46,12 +46,6 @@ module _ (laws : CommandLaws) (t : List ℕ) (i : ℕ) where
 
   pub no_command_left : is_over t i ≡ true → commands_from t i ≡ []
   no_command_left e = laws.commands_by_round t i ∙ ap (commands_after t) (round_here t i true e)
-
--- whether another one comes after it or not, some are left then
-pub others_left : (left : List Command) (c : Command) (after : List Command) (more : Bool)
-    → (IsTrue more → left ≡ c ∷ after) → (IsFalse more → left ≡ c ∷ []) → (others : List Command) × (left ≡ c ∷ others)
-others_left left c after true is last = (after, is refl)
-others_left left c after false is last = ([], last refl)
 
 -- their mistakes
 module _ (p : Statements) (n : ℕ) (t : List ℕ) where

@@ -1,9 +1,8 @@
 -- This file proves why a listing is begun, or isn't.
 -- Main lemma: `begun_both`.
-use Rattle.std.proofs.Common.{◌≡◌, ◌⊎◌, inl, inr, refl, ap, ap₂, List, [], Bool, true, false}
-use Rattle.std.proofs.Common.{Option, Some, None, Result, Ok, Err, IfErr, IsErrOf}
+use Rattle.std.proofs.Common.{◌≡◌, ◌⊎◌, inl, inr, refl, ap, ap₂, subst, List, [], ◌∷◌, ◌++◌, Bool, true, false}
+use Rattle.std.proofs.Common.{Option, Some, None, Result, Ok, Err, IfErr, IfSome, IsErrOf}
 use Rattle.std.specs.Prelude.{ℕ, ◌&&◌}
-use Rattle.std.specs.Result.{OnOk}
 use Rattle.std.proofs.lemmas.Bool.{false_from_ne_true}
 use Rattle.ptb_answers.specs.Outcome.{Answers, Outcome}
 use Rattle.ptb_machine.specs.Play.{Finish}
@@ -13,7 +12,10 @@ use Rattle.ptb_answers.specs.declared.form.Marked.{Marked}
 use Rattle.ptb_answers.specs.AnswerText.{answers_of}
 use Rattle.ptb_explore.specs.MarkedRuns.{IsMarkedBeginning, IsMarkedRun}
 use Rattle.ptb_explore.specs.declared.mismatch.Mismatch.{Mismatch}
-use Rattle.ptb_explore.specs.Mismatch.{IsItemMismatch, IsRunMismatch}
+use Rattle.ptb_explore.specs.declared.mismatch.Mismatch.TheVariants.{OutOfRange, OtherBound}
+use Rattle.ptb_explore.specs.declared.mismatch.Mismatch.TheVariants.{NoQuestion, Missing, NotUnder}
+use Rattle.ptb_explore.specs.Mismatch.{IsItemMismatch}
+use Rattle.ptb_explore.specs.Openings.{IsRefusedRun, IsRunUnder}
 use Rattle.ptb_explore.specs.RunTree.{begins_with}
 use Rattle.ptb_serve.specs.declared.note.Note.{Note}
 use Rattle.ptb_serve.specs.declared.note.Note.TheVariants as notes
@@ -24,11 +26,6 @@ use Rattle.ptb_serve.specs.Replies.{answers_under, front_note, is_front, is_shar
 pub items_answers : (under : Option (List Marked)) → answers_of (items_of under) ≡ answers_under under
 items_answers None = refl
 items_answers (Some list) = refl
-
--- two facts of a result give a third
-pub on_ok_both : {T E P Q R : Type 0} (r : Result T E) → (P → Q → R) → OnOk r P → OnOk r Q → OnOk r R
-on_ok_both (Ok x) f p q = f p q
-on_ok_both (Err e) f p q = tt
 
 -- ---- tests one after the other
 
@@ -97,27 +94,60 @@ module _ (game : Answers → Outcome Finish (List ℕ)) where
       → front_note game (Some under) after ≡ Some notes.NoBeginning
   no_share under after none = ap (λ t. note_of t (is_front game (answers_of under) after)) (share_false under none)
 
-  -- where a run begins with the first list, the second is what is refused
-  pub unbegun_at : {T : Type 0} (under : Option (List Marked)) (list : List Marked) (r : Result T OpenFault)
-      → is_share game under ≡ true
-      → ((m : Mismatch) → IsErrOf r (NotARun m) → IsMarkedRun game list
-      → begins_with (answers_of list) (answers_under under) ≡ true → ⊥)
-      → ((m : Mismatch) → IsErrOf r (NotARun m) → IsRunMismatch game (items_of under) list m)
-      → ((m : Mismatch) → IsErrOf r (NoBeginning m) → ⊥)
-      → IfErr r (IsUnbegun game under (Some list))
-  unbegun_at under list (Ok x) share none why kind = tt
-  unbegun_at None list (Err (NotARun m)) share none why kind = (no_front None list share (none m refl), why m refl)
-  unbegun_at (Some under) list (Err (NotARun m)) share none why kind =
-      (no_front (Some under) list share (none m refl), why m refl)
-  unbegun_at under list (Err (NoBeginning m)) share none why kind = absurd (kind m refl)
-  unbegun_at under list (Err Memory) share none why kind = tt
+  -- ---- what is known of an explorer that was opened
 
-  pub unbegun_under : {T : Type 0} (under : List Marked) (r : Result T OpenFault)
-      → ((m : Mismatch) → IsErrOf r (NoBeginning m) → IsMarkedBeginning game under → ⊥)
-      → ((m : Mismatch) → IsErrOf r (NoBeginning m) → IsItemMismatch game under m)
-      → ((m : Mismatch) → IsErrOf r (NotARun m) → ⊥)
-      → (after : Option (List Marked)) → IfErr r (IsUnbegun game (Some under) after)
-  unbegun_under under (Ok x) none why kind after = tt
-  unbegun_under under (Err (NoBeginning m)) none why kind after = (no_share under after (none m refl), why m refl)
-  unbegun_under under (Err (NotARun m)) none why kind after = absurd (kind m refl)
-  unbegun_under under (Err Memory) none why kind after = tt
+  -- all runs begin with a list that is not named
+  share_is : (under : Option (List Marked)) → IsMarkedBeginning game (items_of under) → is_share game under ≡ true
+  share_is None b = refl
+  share_is (Some under) b = share_true under b
+
+  front_is : (under after : Option (List Marked)) → IfSome after (IsRunUnder game (items_of under))
+      → is_front game (answers_under under) after ≡ true
+  front_is under None run = refl
+  front_is under (Some list) run = front_true (answers_under under) list run.run
+      (subst (λ a. begins_with (answers_of list) a ≡ true) (items_answers under) run.begins)
+
+  pub begun_at : (under after : Option (List Marked)) → IsMarkedBeginning game (items_of under)
+      → IfSome after (IsRunUnder game (items_of under)) → front_note game under after ≡ None
+  begun_at under after b run = ap₂ note_of (share_is under b) (front_is under after run)
+
+  -- an empty list has no item that does not fit
+  no_item : (before after : List Marked) (m : Marked) → [] ≡ before ++ m ∷ after → ⊥
+  no_item [] after m e = absurd cc
+  no_item (x ∷ before) after m e = absurd cc
+
+  no_misfit : (m : Mismatch) → IsItemMismatch game [] m → ⊥
+  no_misfit (OutOfRange item answer bound) x = no_item x.asked.before x.asked.after _ x.asked.list_is
+  no_misfit (OtherBound item stated bound) x = no_item x.asked.before x.asked.after _ x.asked.list_is
+  no_misfit (NoQuestion items) x = no_item x.before x.after x.m x.list_is
+  no_misfit (Missing item bound) x = x
+  no_misfit NotUnder x = x
+
+  refused_share : (under after : Option (List Marked)) (m : Mismatch)
+      → (IsMarkedBeginning game (items_of under) → ⊥) → IsItemMismatch game (items_of under) m
+      → IsUnbegun game under after (NoBeginning m)
+  refused_share None after m none why = absurd (no_misfit m why)
+  refused_share (Some under) after m none why = (no_share under after none, why)
+
+  refused_run : (under after : Option (List Marked)) (m : Mismatch) → IsMarkedBeginning game (items_of under)
+      → IfSome after (λ list. IsRunUnder game (items_of under) list → ⊥) → IsRefusedRun game (items_of under) after m
+      → IsUnbegun game under after (NotARun m)
+  refused_run under None m b none why = absurd why
+  refused_run None (Some list) m b none why =
+      (no_front None list refl (λ r h. none (record { run = r; begins = h })), why)
+  refused_run (Some under) (Some list) m b none why =
+      (no_front (Some under) list (share_true under b) (λ r h. none (record { run = r; begins = h })), why)
+
+  pub unbegun_at : {T : Type 0} (under after : Option (List Marked)) (r : Result T OpenFault)
+      → ((m : Mismatch) → IsErrOf r (NoBeginning m) → IsMarkedBeginning game (items_of under) → ⊥)
+      → ((m : Mismatch) → IsErrOf r (NoBeginning m) → IsItemMismatch game (items_of under) m)
+      → ((m : Mismatch) → IsErrOf r (NotARun m) → IsMarkedBeginning game (items_of under)
+      × IfSome after (λ list. IsRunUnder game (items_of under) list → ⊥))
+      → ((m : Mismatch) → IsErrOf r (NotARun m) → IsRefusedRun game (items_of under) after m)
+      → IfErr r (IsUnbegun game under after)
+  unbegun_at under after (Ok x) share misfit run why = tt
+  unbegun_at under after (Err (NoBeginning m)) share misfit run why =
+      refused_share under after m (share m refl) (misfit m refl)
+  unbegun_at under after (Err (NotARun m)) share misfit run why =
+      refused_run under after m (run m refl).0 (run m refl).1 (why m refl)
+  unbegun_at under after (Err Memory) share misfit run why = tt

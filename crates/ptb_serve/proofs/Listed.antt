@@ -28,6 +28,7 @@ use Rattle.ptb_answers.specs.declared.form.Marked.{Marked}
 use Rattle.ptb_explore.specs.Explorations.{Exploration, play_of, most_of}
 use Rattle.ptb_explore.specs.Listing.{text, WritesRuns}
 use Rattle.ptb_explore.specs.Report.{report}
+use Rattle.ptb_explore.specs.Openings.{first_front}
 use Rattle.ptb_explore.specs.RunTree.{Front, runs_left}
 use Rattle.ptb_serve.specs.declared.note.Note.{Note}
 use Rattle.ptb_serve.specs.declared.note.Note.TheVariants as notes
@@ -36,7 +37,7 @@ use Rattle.ptb_options.specs.declared.request.Mode.TheVariants as modes
 use Rattle.ptb_options.specs.declared.request.Request.{Request}
 use Rattle.ptb_serve.specs.Loaded.{ReadsInput, RefusesListIn, ServesProgram}
 use Rattle.ptb_machine.specs.PlainRuns.{IsUnreadable, input_limit}
-use Rattle.ptb_serve.specs.Replies.{Reply, refusal, success, answers_under, first_front, front_note}
+use Rattle.ptb_serve.specs.Replies.{Reply, refusal, success, answers_under, front_note}
 use Rattle.ptb_serve.specs.Replies.{is_front, is_share, listed_runs, listing_reply, runs_reply}
 use Rattle.ptb_serve.specs.Replies.{all_reply, reply_in_mode}
 use Rattle.ptb_serve.specs.ServedRequests.{outcome_of, device_note, reports_note, IsPlainRun, IsUnloaded}

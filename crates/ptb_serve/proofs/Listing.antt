@@ -15,6 +15,7 @@ use Rattle.ptb_explore.specs.declared.fault.ExploreFault.{ExploreFault}
 use Rattle.ptb_explore.specs.Explorations.{Exploration, play_of, most_of}
 use Rattle.ptb_explore.specs.Listing.{WritesRuns}
 use Rattle.ptb_explore.specs.Report.{report}
+use Rattle.ptb_explore.specs.Openings.{first_front}
 use Rattle.ptb_explore.specs.RunTree.{Front, runs_left}
 use Rattle.ptb_options.specs.declared.request.Mode.{Mode}
 use Rattle.ptb_options.specs.declared.request.Mode.TheVariants as modes
@@ -27,7 +28,7 @@ use Rattle.ptb_explore.specs.declared.fault.OpenFault.TheVariants.{Memory, NoBeg
 use Rattle.ptb_serve.specs.declared.list_mismatch.ListMismatch.TheVariants.{Under, After}
 use Rattle.ptb_serve.specs.ListMismatches.{IsUnbegun, mismatch_note, unbegun_attempt}
 use Rattle.ptb_serve.specs.Loaded.{IsServedOn, ServesProgram, TellsFailures}
-use Rattle.ptb_serve.specs.Replies.{answers_under, first_front, front_note}
+use Rattle.ptb_serve.specs.Replies.{answers_under, front_note}
 use Rattle.ptb_serve.specs.ServedRequests.{ListsFewerOf, device_note, reports_note}
 use Rattle.ptb_serve.proofs.Listed.{front_note-loaded, front_note-other, front_note-silent, lists_fewer}
 use Rattle.ptb_serve.proofs.Listed.{runs_due, serves_front, serves_mode, serves_reports, serves_some}

@@ -21,6 +21,7 @@ use Rattle.ptb_explore.specs.Report.{report_of}
 use Rattle.ptb_explore.specs.Sampling.{SampleLaws}
 use Rattle.ptb_answers.specs.Drawn.{sampled_runs}
 use Rattle.ptb_answers.specs.Seeds.{generator_after, generator_of}
+use Rattle.ptb_explore.specs.Openings.{first_front}
 use Rattle.ptb_explore.specs.RunTree.{IsRun, Before, begins_with, is_left, runs_after}
 use Rattle.ptb_serve.specs.declared.note.Note.{Note}
 use Rattle.ptb_serve.specs.declared.note.Note.TheVariants as notes
@@ -33,7 +34,7 @@ use Rattle.ptb_check.specs.Mistakes.{Mistake, mistakes}
 use Rattle.ptb_check.specs.WrittenMistakes.{has_any}
 use Rattle.ptb_machine.specs.SeededRuns.{SeededLaws, seeded_answers}
 use Rattle.ptb_serve.specs.Replies.{Reply, refusal, plain_reply, seeded_reply, answers_under}
-use Rattle.ptb_serve.specs.Replies.{first_front, front_note, is_front, note_of, all_reply}
+use Rattle.ptb_serve.specs.Replies.{front_note, is_front, note_of, all_reply}
 use Rattle.ptb_serve.specs.Replies.{chances_reply, check_reply, check_status, listing_reply}
 use Rattle.ptb_serve.specs.Replies.{runs_drawn, sample_reply, shares_reply, program_of_text}
 use Rattle.ptb_serve.specs.Replies.{reply_or_refusal, program_reply, reply_in_mode}

@@ -4,7 +4,9 @@
 --     ReadsInput mode ..          what is read of the input
 --     TellsFailures old new result    that the writer failed is noted, and is noted of no other
 --     RefusesListIn result        a list is refused
+--     IsServedIn ..               all that is due of a program that was loaded, by its mode
 --     IsServed mode ..            all of these of a mode that begins with no list
+--     IsServedUnread mode ..      the same of a mode that leaves the input alone
 --     IsServedOn mode ..          the same of lines that were read
 --     TellsMismatch mode ..       what is said of a list accompanies its note, and is true; and each such note has it
 --     line_of ended               the line at which the limit stopped a run
@@ -88,23 +90,6 @@ pub record TellsFailures (old new : ℕ) (result : Result ℕ Note) : Type 0 whe
 abbrev pub RefusesListIn : Result ℕ Note → Type 0
 RefusesListIn result = IsErrOf result notes.NoBeginning ⊎ IsErrOf result notes.NoRun
 
--- all that is due of a mode that begins with no list
-pub record IsServed {R : Type 0} (mode : Mode) (request : Request) (p : StoredProgram) (input : Reads R)
-    (output : Writes) (result : Result ℕ Note) : Type 0 where
-  pub serves : ServesProgram mode request p input.bytes input.left output.before output.after result
-  pub reads : ReadsInput mode input.bytes input.left input.failed input.fails input.gave input.gives result
-  pub failures : TellsFailures output.failed output.fails result
-  pub no_list : RefusesListIn result → ⊥
-
--- the same of the lines of an input that was read
-pub record IsServedOn (mode : Mode) (request : Request) (p : StoredProgram) (lines : List (List ℕ)) (output : Writes)
-    (result : Result ℕ Note) : Type 0 where
-  pub serves : (known left : Option (List ℕ)) → IfSome known (λ c. lines ≡ input_lines c)
-      → ServesProgram mode request p known left output.before output.after result
-  pub read : IsErrOf result notes.InputUnread → ⊥
-  pub failures : TellsFailures output.failed output.fails result
-  pub no_list : RefusesListIn result → ⊥
-
 pub record TellsMismatch (mode : Mode) (request : Request) (p : StoredProgram) (known : Option (List ℕ))
     (result : Result ℕ Note) (mismatch : Option ListMismatch) : Type 0 where
   pub said : RefusesListIn result → IsSome mismatch
@@ -131,3 +116,38 @@ pub record TellsLine (mode : Mode) (request : Request) (p : StoredProgram) (know
       → line ≡ line_in_mode mode p (input_lines c) request.rules
   -- nothing else has a line
   pub elsewhere : ¬ (result ≡ Ok (status endings.Limit)) → line ≡ None
+
+-- all that is due of a mode: the status or the note, why a list fits no run, and the line at which a run stopped
+pub record IsServedIn {R : Type 0} (request : Request) (p : StoredProgram) (input : Reads R) (out : Writes)
+    (result : Result ℕ Note) (found : Option ListMismatch) (reached : Option ℕ) (mode : Mode) : Type 0 where
+  pub serves : ServesProgram mode request p input.bytes input.left out.before out.after result
+  pub reads : ReadsInput mode input.bytes input.left input.failed input.fails input.gave input.gives result
+  pub failures : TellsFailures out.failed out.fails result
+  pub mismatch : TellsMismatch mode request p input.bytes result found
+  pub line : TellsLine mode request p input.bytes result reached
+  pub input_kept : (NeedsInput mode → ⊥) → input.new ≡ input.old
+
+-- all that is due of a mode that begins with no list
+pub record IsServed {R : Type 0} (mode : Mode) (request : Request) (p : StoredProgram) (input : Reads R)
+    (output : Writes) (result : Result ℕ Note) : Type 0 where
+  pub serves : ServesProgram mode request p input.bytes input.left output.before output.after result
+  pub reads : ReadsInput mode input.bytes input.left input.failed input.fails input.gave input.gives result
+  pub failures : TellsFailures output.failed output.fails result
+  pub no_list : RefusesListIn result → ⊥
+
+-- the same of the lines of an input that was read
+pub record IsServedOn (mode : Mode) (request : Request) (p : StoredProgram) (lines : List (List ℕ)) (output : Writes)
+    (result : Result ℕ Note) : Type 0 where
+  pub serves : (known left : Option (List ℕ)) → IfSome known (λ c. lines ≡ input_lines c)
+      → ServesProgram mode request p known left output.before output.after result
+  pub read : IsErrOf result notes.InputUnread → ⊥
+  pub failures : TellsFailures output.failed output.fails result
+  pub no_list : RefusesListIn result → ⊥
+
+-- the same of a mode that leaves the input alone, whose request is not looked at
+pub record IsServedUnread (mode : Mode) (p : StoredProgram) (output : Writes) (result : Result ℕ Note) : Type 0 where
+  pub serves : (request : Request) → p.memory ≡ request.memory → (known : Option (List ℕ))
+      → ServesProgram mode request p known known output.before output.after result
+  pub read : IsErrOf result notes.InputUnread → ⊥
+  pub failures : TellsFailures output.failed output.fails result
+  pub no_list : RefusesListIn result → ⊥

@@ -17,7 +17,8 @@ use Rattle.ptb_answers.specs.AnswerText.{answers_of}
 use Rattle.ptb_answers.specs.Drawn.{sampled_runs}
 use Rattle.ptb_answers.specs.Seeds.{generator_of}
 use Rattle.ptb_explore.specs.MarkedRuns.{states_bounds}
-use Rattle.ptb_explore.specs.RunTree.{Front, Start, At, begins_with, runs_left}
+use Rattle.ptb_explore.specs.Openings.{first_front}
+use Rattle.ptb_explore.specs.RunTree.{begins_with, runs_left}
 use Rattle.ptb_explore.specs.Beginnings.{beginning_line, beginnings}
 use Rattle.ptb_explore.specs.Chances.{chances}
 use Rattle.ptb_explore.specs.Listing.{text}
@@ -92,12 +93,8 @@ program_reply memory b next = reply_or_refusal next memory (program_of_text memo
 
 -- ---- all runs
 
--- a listing begins with the first run, or after a run that is named
-abbrev pub first_front : Option (List Marked) → Front
-first_front None = Start
-first_front (Some list) = At (answers_of list)
-
--- it has the runs that begin with these answers, or all
+-- a listing begins with the first run, or after a run that is named; it has the runs that begin with these answers, or
+-- all
 abbrev pub answers_under : Option (List Marked) → Answers
 answers_under None = []
 answers_under (Some list) = answers_of list

@@ -1,15 +1,16 @@
 // This file has the listing of all runs of a program, each with its report.
 
-ghost use Rattle.std.specs.Prelude.{◌≡◌, ℕ, true, List, Option, None, IfErr, IfOk, IfSome, IsErrOf, OnOk};
-ghost use Rattle.ptb_serve.specs.Prelude.{Marked, HasFailed, input_lines, play, exploration, play_of, most_of};
-ghost use Rattle.ptb_serve.specs.Prelude.{WritesRuns, report, Front, Start, runs_left, mode_of, IsUnbegun, ReadsInput};
+ghost use Rattle.std.specs.Prelude.{◌≡◌, ℕ, List, Option, None, IfErr, IfOk, IfSome, IsErrOf, OnOk, option_copied};
+ghost use Rattle.ptb_serve.specs.Prelude.{FailsAfterSome, FailsOnlyAfterSome, input_lines, play, exploration, play_of};
+ghost use Rattle.ptb_serve.specs.Prelude.{most_of, WritesRuns, report, Front, runs_left, mode_of, IsUnbegun};
 ghost use Rattle.ptb_serve.specs.Prelude.{ServesProgram, TellsFailures, TellsMismatch, answers_under, first_front};
-ghost use Rattle.ptb_serve.specs.Prelude.{front_note, is_share};
+ghost use Rattle.ptb_serve.specs.Prelude.{front_note, items_of, ReadsInput};
 
 use crate::attempt::Attempt;
 use crate::note::Note;
+use ptb_answers::Marked;
 use ptb_explore::{ExploreFault, Explorer, Form, OpenFault, write_all_runs};
-use ptb_machine::{Line, Rules, read_lines};
+use ptb_machine::{Line, read_lines};
 use ptb_options::{MarkedAnswers, Request};
 use ptb_text::{Program, Read, Write};
 use std::alloc::Global;
@@ -25,6 +26,27 @@ pub struct Listing<'a> {
     pub first: Option<u64>,
     /// How the reports have the answers.
     pub form: Form,
+}
+
+impl<'a> Listing<'a> {
+    ghost use Rattle.ptb_options.specs.declared.request.Mode.TheVariants as modes;
+
+    /// The listing of these runs.
+    pub fn new(
+        under: &'a Option<MarkedAnswers>,
+        after: &'a Option<MarkedAnswers>,
+        first: Option<u64>,
+        form: Form,
+    ) -> Listing<'a>
+        ensures { mode_of result ≡ modes.All under.now after.now first form }
+    {
+        Listing {
+            under,
+            after,
+            first,
+            form,
+        }
+    }
 }
 
 /// Writes the reports of the runs of a listing. The status is 0.
@@ -109,12 +131,30 @@ fn write_reports<W: Write>(
         (runs_left (play_of explorer.entry) (most_of explorer.entry) explorer.entry.under
         explorer.entry.front first)
         explorer.entry.front front (W.contents out.old) (W.contents out.new) result }
-    ensures failed { (n : ℕ) → IsErrOf result (ExploreFault.Write n)
-        → HasFailed (W.failures out.old) (W.failures out.new) }
-    ensures unfailed { ((n : ℕ) → ¬ IsErrOf result (ExploreFault.Write n))
-        → W.failures out.new ≡ W.failures out.old }
+    ensures failed { FailsAfterSome result (W.failures out.old) (W.failures out.new) }
+    ensures unfailed { FailsOnlyAfterSome result (W.failures out.old) (W.failures out.new) }
 {
     write_all_runs(&mut explorer, first, form, out)
+}
+
+// The items of a list, if it is named.
+fn named_items(list: &Option<MarkedAnswers>) -> Option<&[Marked]>
+    ensures { option_copied result ≡ list.now }
+{
+    match list {
+        None => None,
+        Some(list) => Some(list.as_slice()),
+    }
+}
+
+// The items of a list; none where it is not named.
+fn items(list: &Option<MarkedAnswers>) -> &[Marked]
+    ensures { result.now ≡ items_of list.now }
+{
+    match list {
+        None => &[],
+        Some(list) => list.as_slice(),
+    }
 }
 
 // An explorer of the runs of a listing: before the first of them, or at the run after which the listing
@@ -133,30 +173,7 @@ fn explorer_from<'a>(
     ensures unbegun { IfErr result (IsUnbegun (play program.now lines.now request.now.rules)
         listing.entry.under.now listing.entry.after.now) }
 {
-    let explorer = first_explorer(alloc, program, lines, request.rules, listing.under)?;
-    match listing.after {
-        None => Ok(explorer),
-        Some(list) => explorer.go_to(list.as_slice()),
-    }
-}
-
-// An explorer of the runs that begin with the answers `under`, or of all, before the first of them.
-fn first_explorer<'a>(
-    alloc: Global,
-    program: &'a Program,
-    lines: &'a [Line],
-    rules: Rules,
-    under: &Option<MarkedAnswers>,
-) -> Result<Explorer<'a>, OpenFault>
-    ensures explorer { IfOk result (λ e. e ≡ exploration program.now lines.now rules
-        (answers_under under.now) Start e.kept e.played) }
-    ensures begins { OnOk result
-        (is_share (play program.now lines.now rules) under.now ≡ true) }
-    ensures unbegun { (after : Option (List Marked)) → IfErr result
-        (IsUnbegun (play program.now lines.now rules) under.now after) }
-{
-    match under {
-        None => Ok(Explorer::start(alloc, program, lines, rules)?),
-        Some(list) => Explorer::under(alloc, program, lines, rules, list.as_slice()),
-    }
+    let under = items(listing.under);
+    let after = named_items(listing.after);
+    Explorer::open(alloc, program, lines, request.rules, under, after)
 }

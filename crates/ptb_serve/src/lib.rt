@@ -19,6 +19,7 @@ mod note;
 mod sample;
 mod service;
 mod shares;
+mod text;
 
 pub use flushing_writer::FlushingWriter;
 pub use laws::reply_laws;

@@ -1,9 +1,9 @@
 // This file has the listing of the mistakes in a program's text.
 
-ghost use Rattle.std.specs.Prelude.{◌≡◌, ◌≤◌, ℕ, List, Option, IsErrOf};
+ghost use Rattle.std.specs.Prelude.{◌≡◌, ◌≤◌};
 ghost use Rattle.ptb_options.specs.declared.request.Mode.TheVariants.{Check};
-ghost use Rattle.ptb_options.specs.declared.request.Request.{Request};
-ghost use Rattle.ptb_serve.specs.Loaded.{RefusesListIn, ServesProgram, TellsFailures};
+ghost use Rattle.ptb_machine.specs.Streams.{writes_of};
+ghost use Rattle.ptb_serve.specs.Loaded.{IsServedUnread};
 ghost use Rattle.ptb_serve.specs.Replies.{check_status};
 
 use crate::note::Note;
@@ -17,12 +17,8 @@ use ptb_text::{Program, Write};
 ///
 /// [`Note::Unwritten`] where the writer failed: a prefix of the mistakes was written.
 pub fn list_mistakes<W: Write>(program: &Program, out: &mut W) -> Result<u8, Note>
-    ensures serves { (request : Request) → program.now.memory ≡ request.memory
-        → (known : Option (List ℕ)) → ServesProgram Check request program.now known known
-        (W.contents out.old) (W.contents out.new) result }
-    ensures read { ¬ IsErrOf result Note.InputUnread }
-    ensures failures { TellsFailures (W.failures out.old) (W.failures out.new) result }
-    ensures no_list { ¬ RefusesListIn result }
+    ensures { IsServedUnread Check program.now
+        (writes_of W.contents W.failures out.old out.new) result }
 {
     let any = write_mistakes(program, out)?;
     Ok(status_of(any))

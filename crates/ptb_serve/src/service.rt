@@ -3,9 +3,8 @@
 // mistakes.
 
 ghost use Rattle.std.specs.Prelude.{◌≡◌, IfSome, IsErrOf, None};
-ghost use Rattle.ptb_serve.specs.Prelude.{status, ending_alone, reads_of, writes_of, IsRunStatus, ReadsInput};
-ghost use Rattle.ptb_serve.specs.Prelude.{ServesProgram, TellsFailures, TellsLine, TellsMismatch, line_of, FailsLoudly};
-ghost use Rattle.ptb_serve.specs.Prelude.{ReadsOnlyWhatIsAsked, Served, ReplyLaws, NeedsInput, outcome_of};
+ghost use Rattle.ptb_serve.specs.Prelude.{status, ending_alone, reads_of, writes_of, IsRunStatus, IsServedIn};
+ghost use Rattle.ptb_serve.specs.Prelude.{line_of, FailsLoudly, ReadsOnlyWhatIsAsked, Served, ReplyLaws, outcome_of};
 
 use crate::all_runs::{Listing, list_runs};
 use crate::attempt::Attempt;
@@ -15,12 +14,13 @@ use crate::list_mismatch::ListMismatch;
 use crate::mistakes::list_mistakes;
 use crate::note::Note;
 use crate::sample::list_sample;
-use crate::shares::list_shares;
+use crate::shares::{Shares, list_shares};
+use crate::text::list_text;
 use ptb_chances::Watch;
 use ptb_explore::Sample;
 use ptb_machine::{Ending, RunEnd, RunFault, run_plain_to_end, run_seeded_to_end};
 use ptb_options::{Mode, Request};
-use ptb_text::{Program, Read, Write, list, load};
+use ptb_text::{Program, Read, Write, load};
 use std::alloc::Global;
 
 /// The result of serving a request.
@@ -123,18 +123,10 @@ fn serve_program<R: Read, W: Write + Watch>(
     out: &mut W,
 ) -> Attempt
     requires memory { program.now.memory ≡ request.now.memory }
-    ensures serves { ServesProgram request.now.mode request.now program.now
-        (R.remaining input.old) (R.remaining input.new)
-        (W.contents out.old) (W.contents out.new) result.served }
-    ensures reads { ReadsInput request.now.mode (R.remaining input.old) (R.remaining input.new)
-        (R.failures input.old) (R.failures input.new)
-        (R.given input.old) (R.given input.new) result.served }
-    ensures failures { TellsFailures (W.failures out.old) (W.failures out.new) result.served }
-    ensures mismatch { TellsMismatch request.now.mode request.now program.now
-        (R.remaining input.old) result.served result.mismatch }
-    ensures line { TellsLine request.now.mode request.now program.now
-        (R.remaining input.old) result.served result.line }
-    ensures input_kept { ¬ NeedsInput request.now.mode → input.new ≡ input.old }
+    ensures { IsServedIn request.now program.now
+        (reads_of R.remaining R.given R.failures input.old input.new)
+        (writes_of W.contents W.failures out.old out.new)
+        result.served result.mismatch result.line request.now.mode }
 {
     match &request.mode {
         Mode::Plain(answers) => {
@@ -152,16 +144,12 @@ fn serve_program<R: Read, W: Write + Watch>(
             first,
             form,
         } => {
-            let listing = Listing {
-                under,
-                after,
-                first: *first,
-                form: *form,
-            };
+            let listing = Listing::new(under, after, *first, *form);
             list_runs(alloc, request, program, listing, input, out)
         }
         Mode::Shares { answers, form } => {
-            let served = list_shares(alloc, request, program, *answers, *form, input, out);
+            let shares = Shares::new(*answers, *form);
+            let served = list_shares(alloc, request, program, shares, input, out);
             Attempt::without_mismatch(served)
         }
         Mode::Sample { seed, runs, form } => {
@@ -173,10 +161,7 @@ fn serve_program<R: Read, W: Write + Watch>(
             let served = list_sample(alloc, request, program, sample, input, out);
             Attempt::without_mismatch(served)
         }
-        Mode::List => match list(program, out) {
-            Ok(()) => Attempt::without_mismatch(Ok(0)),
-            Err(_) => Attempt::without_mismatch(Err(Note::Unwritten)),
-        },
+        Mode::List => Attempt::without_mismatch(list_text(program, out)),
         Mode::Check => Attempt::without_mismatch(list_mistakes(program, out)),
         Mode::Chances => Attempt::without_mismatch(list_table(alloc, request, program, input, out)),
     }
