@@ -60,11 +60,11 @@ mismatch_text (Missing item bound) =
 mismatch_text NotUnder = codes "the list does not begin with the items of --under"
 
 -- the option whose list it is comes first
-abbrev pub list_line : List ℕ → Mismatch → List ℕ
-list_line option m = codes "  " ++ option ++ codes ": " ++ mismatch_text m
+abbrev pub mismatch_line : List ℕ → Mismatch → List ℕ
+mismatch_line option m = codes "  " ++ option ++ codes ": " ++ mismatch_text m
 
 abbrev pub reason_line : Reason → Option (List ℕ)
 reason_line (reasons.Failed name error) = None
 reason_line reasons.TooLong = Some (codes "  standard input has more than 16777216 bytes")
-reason_line (reasons.List (lists.Under m)) = Some (list_line (codes "--under") m)
-reason_line (reasons.List (lists.After m)) = Some (list_line (codes "--after") m)
+reason_line (reasons.List (lists.Under m)) = Some (mismatch_line (codes "--under") m)
+reason_line (reasons.List (lists.After m)) = Some (mismatch_line (codes "--after") m)

@@ -1,7 +1,7 @@
 // This file has the lines that say what was wrong, each after the note that it explains.
 
 ghost use Rattle.std.specs.Fmt.{WritesOnOk};
-ghost use Rattle.ptb.specs.Messages.{list_line, mismatch_text, reason_line};
+ghost use Rattle.ptb.specs.Messages.{mismatch_line, mismatch_text, reason_line};
 
 use crate::endings::plural;
 use ptb_explore::Mismatch;
@@ -34,7 +34,7 @@ impl<'a> fmt::Display for Reason<'a> {
 
 // Writes that the list of an option fits no run, and why.
 fn write_list<W: fmt::Write>(option: &str, why: Mismatch, f: &mut fmt::Formatter<W>) -> fmt::Result
-    ensures { WritesOnOk W.write_str_gives f.old result (list_line option.now why) f.new }
+    ensures { WritesOnOk W.write_str_gives f.old result (mismatch_line option.now why) f.new }
 {
     write!(f, "  {option}: ")?;
     write_mismatch(why, f)

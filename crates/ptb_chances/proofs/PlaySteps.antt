@@ -29,7 +29,7 @@ use Rattle.ptb_machine.specs.TurnResults.{StepsTo, goes, ends, StepComes}
 use Rattle.ptb_explore.specs.Chances.{last_line}
 use Rattle.ptb_explore.specs.PlannedPlays.{run_from}
 use Rattle.ptb_explore.proofs.RunPrefix.{of_turn}
-use Rattle.ptb_chances.specs.Planned.{PlanAnswers, choices_of, RefusedByPlan}
+use Rattle.ptb_chances.specs.Planned.{PlanAnswers, plan_choices, RefusedByPlanAnswers}
 use Rattle.ptb_chances.specs.Standing.{SameEnd, StandsAt, Came, IsOver, IsAsked, PlaysTo, played_of}
 use Rattle.ptb_chances.specs.declared.plays.Played.{Played}
 use Rattle.ptb_chances.proofs.Picked.{all_taken, next_taken}
@@ -116,9 +116,9 @@ module _ (laws : RunLaws) (p : StoredProgram) (rules : Rules) where
   module _ (S : State) (m new : Configuration) (c : Choices) (l : PlanAnswers) (s t : List ℕ)
       (given left rest : List (List ℕ)) (most few : ℕ) (u : Came p rules S c.taken m left s) where
     abbrev Paused : Pause → Type 0
-    Paused z = AsksUnanswered (refused_by (RefusedByPlan l) (λ _. ⊥) (Some rest))
+    Paused z = AsksUnanswered (refused_by (RefusedByPlanAnswers l) (λ _. ⊥) (Some rest))
         (StepsTo p.lines new (devices c (text_state s) most rules.choose []) u.state rest (turn p rules.limit u.state))
-        (devices (choices_of l) (text_state t) few rules.choose given) act_state z
+        (devices (plan_choices l) (text_state t) few rules.choose given) act_state z
 
     turn_asks : Paused pauses.Ended → IsAsked p rules S l.answers l.refused_bound
     turn_asks w =
@@ -126,7 +126,7 @@ module _ (laws : RunLaws) (p : StoredProgram) (rules : Rules) where
         let T : State = x.leads.state in
         let all : take l.given l.answers ++ [] ≡ l.answers = all_taken l.answers l.given w.refuses.0 in
         let asks : run_from p rules S l.answers ≡ Asks w.bound T.shown =
-        ap (run_from p rules S) (sym all) ∙ turned S m new c (choices_of l) s t given left rest most few u w.left x []
+        ap (run_from p rules S) (sym all) ∙ turned S m new c (plan_choices l) s t given left rest most few u w.left x []
         ∙ ap (from_turn p rules) (w.question T).asks in
         record { shown = T.shown; asks = asks ∙ ap (λ (n : ℤ). Asks n T.shown) (sym w.refuses.1) }
 
@@ -138,24 +138,24 @@ module _ (laws : RunLaws) (p : StoredProgram) (rules : Rules) where
         next_taken l.answers l.given k w.refuses.0 in
         let out : run_from p rules S l.answers ≡ Out w.bound T.shown =
         ap (run_from p rules S) all
-        ∙ turned S m new c (choices_of l) s t given left rest most few u w.left x (k ∷ drop (suc l.given) l.answers)
+        ∙ turned S m new c (plan_choices l) s t given left rest most few u w.left x (k ∷ drop (suc l.given) l.answers)
         ∙ ap (from_turn p rules) ((w.question T).outside (drop (suc l.given) l.answers)) in
         let never : false ≡ true = ap is_open (sym out) ∙ opens in
         absurd cc
 
     turn_ends : (e : Ending) → (e ≡ endings.NoAnswer → ⊥) → (e ≡ endings.BadAnswer → ⊥)
-        → StepComes (refused_by (RefusedByPlan l) (λ _. ⊥) (Some rest)) (StepsTo p.lines new
+        → StepComes (refused_by (RefusedByPlanAnswers l) (λ _. ⊥) (Some rest)) (StepsTo p.lines new
         (devices c (text_state s) most rules.choose []) u.state rest (turn p rules.limit u.state))
-        (devices (choices_of l) (text_state t) few rules.choose given) (Ok (Some e))
+        (devices (plan_choices l) (text_state t) few rules.choose given) (Ok (Some e))
         → IsOver p rules S (take l.given l.answers) e t
-    turn_ends endings.End a b x = turn_over S m new c (choices_of l) s t given left rest most few u endings.End x
-    turn_ends endings.Stop a b x = turn_over S m new c (choices_of l) s t given left rest most few u endings.Stop x
-    turn_ends endings.What a b x = turn_over S m new c (choices_of l) s t given left rest most few u endings.What x
-    turn_ends endings.How a b x = turn_over S m new c (choices_of l) s t given left rest most few u endings.How x
-    turn_ends endings.Sorry a b x = turn_over S m new c (choices_of l) s t given left rest most few u endings.Sorry x
-    turn_ends endings.Limit a b x = turn_over S m new c (choices_of l) s t given left rest most few u endings.Limit x
-    turn_ends endings.NoInput a b w = turn_dry S m new c (choices_of l) s t given left rest most few u
-        (RefusedByPlan l) w
+    turn_ends endings.End a b x = turn_over S m new c (plan_choices l) s t given left rest most few u endings.End x
+    turn_ends endings.Stop a b x = turn_over S m new c (plan_choices l) s t given left rest most few u endings.Stop x
+    turn_ends endings.What a b x = turn_over S m new c (plan_choices l) s t given left rest most few u endings.What x
+    turn_ends endings.How a b x = turn_over S m new c (plan_choices l) s t given left rest most few u endings.How x
+    turn_ends endings.Sorry a b x = turn_over S m new c (plan_choices l) s t given left rest most few u endings.Sorry x
+    turn_ends endings.Limit a b x = turn_over S m new c (plan_choices l) s t given left rest most few u endings.Limit x
+    turn_ends endings.NoInput a b w = turn_dry S m new c (plan_choices l) s t given left rest most few u
+        (RefusedByPlanAnswers l) w
     turn_ends endings.NoAnswer a b w = absurd (a refl)
     turn_ends endings.BadAnswer a b w = absurd (b refl)
 
@@ -207,20 +207,21 @@ module _ (laws : RunLaws) (p : StoredProgram) (rules : Rules) where
   module _ (S : State) (m new : Configuration) (c : Choices) (l : PlanAnswers) (s t : List ℕ)
       (given left rest : List (List ℕ)) (most few : ℕ) (r : Result (Option Ending) RunFault)
       (u : Came p rules S c.taken m left s) (lines_are : left ≡ given ++ rest) (follows : few ≡ 0 → rest ≡ [])
-      (steps : Steps (refused_by (RefusedByPlan l) (λ _. ⊥) (Some rest)) p rules.limit m new (devices c (text_state s)
-      most rules.choose []) (devices (choices_of l) (text_state t) few rules.choose given) r) where
+      (steps : Steps (refused_by (RefusedByPlanAnswers l) (λ _. ⊥) (Some rest)) p rules.limit m new
+      (devices c (text_state s)
+      most rules.choose []) (devices (plan_choices l) (text_state t) few rules.choose given) r) where
     abbrev Comes : Result (Option Ending) RunFault → Type 0
-    Comes answer = StepComes (refused_by (RefusedByPlan l) (λ _. ⊥) (Some rest))
+    Comes answer = StepComes (refused_by (RefusedByPlanAnswers l) (λ _. ⊥) (Some rest))
         (StepsTo p.lines new (devices c (text_state s) most rules.choose []) u.state rest (turn p rules.limit u.state))
-        (devices (choices_of l) (text_state t) few rules.choose given) answer
+        (devices (plan_choices l) (text_state t) few rules.choose given) answer
 
     comes : (answer : Result (Option Ending) RunFault) → r ≡ answer → Comes answer
-    comes answer is = step_comes S m new c (choices_of l) s t given left rest most few
-        (refused_by (RefusedByPlan l) (λ _. ⊥) (Some rest)) r answer u is lines_are follows steps
+    comes answer is = step_comes S m new c (plan_choices l) s t given left rest most few
+        (refused_by (RefusedByPlanAnswers l) (λ _. ⊥) (Some rest)) r answer u is lines_are follows steps
 
     abbrev Led : (State → Answers → Outcome StepResult State) → Type 0
     Led g = StepsTo p.lines new (devices c (text_state s) most rules.choose []) u.state rest
-        (turn p rules.limit u.state) (devices (choices_of l) (text_state t) few rules.choose given) g
+        (turn p rules.limit u.state) (devices (plan_choices l) (text_state t) few rules.choose given) g
 
     turn_plan : (g : State → Answers → Outcome StepResult State) → Led g → l.answers ≡ c.plan
     turn_plan g x = ap (λ (y : Choices). y.plan) x.exchanges.grown
@@ -228,9 +229,9 @@ module _ (laws : RunLaws) (p : StoredProgram) (rules : Rules) where
     -- the plan stays
     pub step_plan : (o : Option Ending) → r ≡ Ok o → l.answers ≡ c.plan
     step_plan None is = turn_plan goes (comes (Ok None) is)
-    step_plan (Some e) is = of_turn (refused_by (RefusedByPlan l) (λ _. ⊥) (Some rest))
+    step_plan (Some e) is = of_turn (refused_by (RefusedByPlanAnswers l) (λ _. ⊥) (Some rest))
         (StepsTo p.lines new (devices c (text_state s) most rules.choose []) u.state rest (turn p rules.limit u.state))
-        (devices (choices_of l) (text_state t) few rules.choose given) turn_plan e (comes (Ok (Some e)) is)
+        (devices (plan_choices l) (text_state t) few rules.choose given) turn_plan e (comes (Ok (Some e)) is)
 
     step_asks : r ≡ Ok (Some endings.NoAnswer) → IsAsked p rules S l.answers l.refused_bound
     step_asks is = turn_asks S m new c l s t given left rest most few u (comes (Ok (Some endings.NoAnswer)) is)

@@ -1,5 +1,5 @@
 -- This file defines how far the runs of a stage's program are counted.
---     IsCounted s tally ws     with what waits, the tally is the account of all runs
+--     IsTallied s tally ws     with what waits, the tally is the account of all runs
 --     load_left s ws           more than is left to be done
 use Rattle.std.specs.Prelude.{ℕ, List}
 use Rattle.ptb_machine.specs.Questions.{most_answers}
@@ -7,11 +7,11 @@ use Rattle.ptb_explore.specs.Chances.{Row}
 use Rattle.ptb_chances.specs.declared.stage.Stage.{Stage}
 use Rattle.ptb_chances.specs.Waiting.{Accounted, Standing, load}
 
-abbrev pub most_of : Stage → ℕ
-most_of s = most_answers s.player s.console.source.lines s.rules.limit
+abbrev pub most_asked : Stage → ℕ
+most_asked s = most_answers s.player s.console.source.lines s.rules.limit
 
-abbrev pub IsCounted : Stage → List Row → List Standing → Type 0
-IsCounted s tally ws = Accounted s.player s.console.source.lines s.rules (most_of s) tally ws
+abbrev pub IsTallied : Stage → List Row → List Standing → Type 0
+IsTallied s tally ws = Accounted s.player s.console.source.lines s.rules (most_asked s) tally ws
 
 abbrev pub load_left : Stage → List Standing → ℕ
-load_left s ws = load s.rules.limit (most_of s) ws
+load_left s ws = load s.rules.limit (most_asked s) ws

@@ -1,8 +1,8 @@
 -- This file defines what the chooser of a plan holds.
 --     PlanAnswers                    the answers of a plan, how many of them were given, and the bound of the question
 --                                    that was refused last
---     choices_of l                   what it holds as a chooser
---     RefusedByPlan l pause n        why it gives no answer to a question with bound n
+--     plan_choices l                   what it holds as a chooser
+--     RefusedByPlanAnswers l pause n        why it gives no answer to a question with bound n
 use Rattle.std.specs.Prelude.{◌≡◌, ℕ, false, List, length, take, Some, None, slice_get, ℤ}
 use Rattle.ptb_answers.specs.declared.pause.Pause.{Pause}
 use Rattle.ptb_answers.specs.declared.pause.Pause.TheVariants.{Ended, OutOfRange, Memory}
@@ -15,11 +15,11 @@ pub record PlanAnswers : Type 0 where
   pub refused_bound : ℤ
 
 -- it keeps no bounds
-abbrev pub choices_of : PlanAnswers → Choices
-choices_of l = record { plan = l.answers; taken = take l.given l.answers; kept = None }
+abbrev pub plan_choices : PlanAnswers → Choices
+plan_choices l = record { plan = l.answers; taken = take l.given l.answers; kept = None }
 
 -- the plan is used up, or its next answer is out of range; never for lack of memory
-abbrev pub RefusedByPlan : PlanAnswers → Pause → ℤ → Type 0
-RefusedByPlan l Ended n = (l.given ≡ length l.answers) × (l.refused_bound ≡ n)
-RefusedByPlan l (OutOfRange g) n = (slice_get l.answers l.given ≡ Some g) × (is_answer n g ≡ false)
-RefusedByPlan l Memory n = ⊥
+abbrev pub RefusedByPlanAnswers : PlanAnswers → Pause → ℤ → Type 0
+RefusedByPlanAnswers l Ended n = (l.given ≡ length l.answers) × (l.refused_bound ≡ n)
+RefusedByPlanAnswers l (OutOfRange g) n = (slice_get l.answers l.given ≡ Some g) × (is_answer n g ≡ false)
+RefusedByPlanAnswers l Memory n = ⊥

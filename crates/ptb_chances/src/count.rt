@@ -3,7 +3,7 @@
 
 ghost use Rattle.std.specs.Prelude.{◌≡◌, ◌<◌, ◌∷◌, IfOk, OnOk};
 ghost use Rattle.ptb_chances.specs.Prelude.{lines, play, most_answers, last_line, tree, AddsRow, IsAccountOf};
-ghost use Rattle.ptb_chances.specs.Prelude.{IsCounted, load_left, planned, standings};
+ghost use Rattle.ptb_chances.specs.Prelude.{IsTallied, load_left, planned, standings};
 
 use crate::last_line::last_line;
 use crate::plays::{Console, Played};
@@ -52,13 +52,13 @@ struct Count<'p, 'l> {
 impl<'p, 'l> Count<'p, 'l> {
     // Plays a plan that was taken out of the work. Plays that are over are counted; others are put back.
     fn settle(&mut self, alloc: Global, plan: Plan) -> Result<(), AllocError>
-        requires { IsCounted self.old.stage self.old.tally
+        requires { IsTallied self.old.stage self.old.tally
             (planned self.old.work.place plan ∷ standings self.old.work) }
         ensures player { self.new.stage.player ≡ self.old.stage.player }
         ensures rules { self.new.stage.rules ≡ self.old.stage.rules }
         ensures lines { self.new.stage.console.source.lines
             ≡ self.old.stage.console.source.lines }
-        ensures counted { OnOk result (IsCounted self.old.stage self.new.tally
+        ensures counted { OnOk result (IsTallied self.old.stage self.new.tally
             (standings self.new.work)) }
         ensures less { OnOk result (load_left self.old.stage (standings self.new.work)
             < load_left self.old.stage

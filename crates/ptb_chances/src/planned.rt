@@ -52,11 +52,11 @@ impl<'a> PlanChooser<'a> {
 }
 
 impl<'a> Chooser for PlanChooser<'a> {
-    ghost use Rattle.ptb_chances.specs.Planned.{choices_of, RefusedByPlan};
+    ghost use Rattle.ptb_chances.specs.Planned.{plan_choices, RefusedByPlanAnswers};
 
-    ghost choices = { choices_of };
+    ghost choices = { plan_choices };
 
-    ghost refused = { RefusedByPlan };
+    ghost refused = { RefusedByPlanAnswers };
 
     fn choose(&mut self, bound: i16) -> Result<i16, Pause> {
         match self.list.choose(bound) {

@@ -14,7 +14,7 @@ use Rattle.ptb_expr.specs.declared.fault.FaultKind.TheVariants as kinds
 use Rattle.ptb_expr.specs.Reading.{item_of}
 use Rattle.ptb_command.specs.declared.ending.Ending.TheVariants as endings
 use Rattle.ptb_command.specs.Actions.{Faults, Ends, Progress, Goes, Halts, Action, on_progress}
-use Rattle.ptb_command.specs.Act.{fails, is_full, if_room, goto_action, gosub_action, return_action}
+use Rattle.ptb_command.specs.Act.{fails, is_full, if_not_full, goto_action, gosub_action, return_action}
 use Rattle.ptb_command.specs.Act.{without_loop, with_loop, with_call, loops_from, next_action}
 use Rattle.ptb_code.specs.State.{statement, Place, Loop, Call, State, next_index, next_command, text_of, first_state}
 use Rattle.ptb_code.specs.Commands.{letter_of, Command}
@@ -36,7 +36,7 @@ HaltStays S (Done (Halts h T) rest) = T.place ≡ S.place
 HaltStays S (Asks n T) = Unit {0}
 HaltStays S (Out n T) = Unit {0}
 
-room_stays : (e : ℕ) (f : State → State) (S : State) (a : Answers) → HaltStays S (if_room e f S a)
+room_stays : (e : ℕ) (f : State → State) (S : State) (a : Answers) → HaltStays S (if_not_full e f S a)
 room_stays e f S a = by_room (is_full S)
   where
     by_room : (b : Bool) → HaltStays S (cond b (fails kinds.Sorry e S a) (Done (Goes tt (f S)) a))
@@ -62,7 +62,7 @@ next_stays e next [] S a = refl
 next_stays e next (l ∷ ls) S a = tt
 
 for_stays : (e : ℕ) (loop : Loop) (S : State) (a : Answers)
-    → HaltStays S (if_room e (with_loop loop) (without_loop loop.letter S) a)
+    → HaltStays S (if_not_full e (with_loop loop) (without_loop loop.letter S) a)
 for_stays e loop S a = by_room (is_full (without_loop loop.letter S))
   where
     by_room : (b : Bool)

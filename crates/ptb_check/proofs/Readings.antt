@@ -5,7 +5,7 @@ use Rattle.std.specs.Option.{option_or}
 use Rattle.ptb_expr.specs.declared.fault.Fault.{Fault}
 use Rattle.ptb_expr.specs.declared.fault.FaultKind.TheVariants.{What}
 use Rattle.ptb_expr.specs.Reading.{Reading, Whole, Malformed, node_over, expression, variable_tree}
-use Rattle.ptb_expr.specs.Spells.{Part, Expr, Sum, First, MoreSum, Product, MoreProduct, Factor}
+use Rattle.ptb_expr.specs.Spells.{Production, Expr, Sum, First, MoreSum, Product, MoreProduct, Factor}
 use Rattle.ptb_expr.specs.Spells.{Variable, Paren, Spells, SpellingLaws}
 use Rattle.ptb_expr.specs.Spells as spells
 use Rattle.ptb_expr.specs.Tree.{Tree, Elem, Rnd, Abs, Neg, Bin}
@@ -30,7 +30,7 @@ pub none_both : (o p : Option Fault) → o ≡ None → p ≡ None → option_or
 none_both o p e d = ap (λ v. option_or v p) e ∙ d
 
 -- what is before a part has no fault
-abbrev IsClean : Part → Type 0
+abbrev IsClean : Production → Type 0
 IsClean Expr = Unit {0}
 IsClean Sum = Unit {0}
 IsClean First = Unit {0}
@@ -48,7 +48,7 @@ over node m (Whole y k) same h = same y k ∙ h
 over node m (Malformed y) same h = subst IsSome (sym (same y m)) h
 
 module _ (t : List ℕ) where
-  spelled : (part : Part) (i : ℕ) (r : Reading Tree) → Spells t part i r → IsClean part → Tells written_fault r
+  spelled : (part : Production) (i : ℕ) (r : Reading Tree) → Spells t part i r → IsClean part → Tells written_fault r
   spelled part i r (spells.sum_alone s e) h = spelled Sum i r s tt
   spelled part i r (spells.compared {x = x} {op = op} {r = q} s e u) h =
       over (Bin op x) _ q (λ y k. ap (λ o. option_or o (written_fault y)) (spelled Sum i _ s tt)) (spelled Sum _ q u tt)

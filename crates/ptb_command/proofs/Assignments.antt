@@ -11,7 +11,7 @@ use Rattle.ptb_code.specs.State.{State}
 use Rattle.ptb_command.specs.Actions.{Action, and_then, goes_on}
 use Rattle.ptb_command.specs.Act.{value_action, target_action, store, parts_action}
 use Rattle.ptb_command.specs.Devices.{Devices, no_exchange, Refusal}
-use Rattle.ptb_command.specs.Traces.{Trace, trace, with_due, after, once_shown, RefinesPart}
+use Rattle.ptb_command.specs.Traces.{Trace, trace, with_due, state_after, once_shown, RefinesPart}
 use Rattle.ptb_command.specs.Stops.{Stops, RefinesPartTo}
 use Rattle.ptb_command.proofs.Effects.{begins_itself, takes_itself}
 use Rattle.ptb_command.proofs.Exchanges.{exchanges_none}
@@ -29,11 +29,11 @@ store_refines_part d fresh due c e at v k = record {
   exchanges = exchanges_none d;
   fresh = freshens_nothing fresh;
   leaves = λ S rest _ f.
-      let stored : record S { cells = with_target S.cells at v } ≡ after (trace d fresh e) [] rest S =
+      let stored : record S { cells = with_target S.cells at v } ≡ state_after (trace d fresh e) [] rest S =
       ap (λ (x : Cells). record S { cells = with_target x at v }) f.cells
       ∙ ap (λ (x : Cells). record S { cells = x }) (sym k)
       ∙ ap (λ (T : State). record T { cells = e }) (after_nothing (with_due due (trace d fresh c)) rest S f) in
-      leaves_to (goes_on tt (once_shown due (after (trace d fresh e) [] rest S)))
+      leaves_to (goes_on tt (once_shown due (state_after (trace d fresh e) [] rest S)))
       (ap (λ T. goes_on tt (once_shown due T)) stored) (leaves_itself (store at v (once_shown due S)));
 }
 

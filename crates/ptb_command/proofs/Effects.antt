@@ -23,7 +23,7 @@ use Rattle.ptb_code.specs.Commands.{Part, Assign, Say, Width, Show, NewLine, Tak
 use Rattle.ptb_code.specs.State.{Place, Loop, Call, State, text_of, nesting, nesting_limit}
 use Rattle.ptb_command.specs.Actions.{Halt, Faults, Ends, Progress, Goes, Halts, Action}
 use Rattle.ptb_command.specs.Actions.{on_progress, and_then, goes_on, halt, change, show, attempt, or_halt, work_action}
-use Rattle.ptb_command.specs.Act.{newline, without_line, fails, is_full, go_to, if_room}
+use Rattle.ptb_command.specs.Act.{newline, without_line, fails, is_full, go_to, if_not_full}
 use Rattle.ptb_command.specs.Act.{goto_action, with_call, gosub_action, return_action, without_loop}
 use Rattle.ptb_command.specs.Act.{with_loop, for_action, loops_from, is_past, loop_end, loop_turn}
 use Rattle.ptb_code.specs.Commands.{letter_of}
@@ -300,7 +300,7 @@ go_to_end q = record { at = λ S a. record { lines = refl; shown = refl; steps =
 -- one more is open where there is room
 if_room_end : (e : ℕ) (f : State → State) → ((S : State) → (f S).lines ≡ S.lines)
     → ((S : State) → (f S).shown ≡ S.shown) → ((S : State) → (f S).steps ≡ S.steps)
-    → ((S : State) → nesting (f S) ≡ nesting S + 1) → Preserves EndChange (if_room e f)
+    → ((S : State) → nesting (f S) ≡ nesting S + 1) → Preserves EndChange (if_not_full e f)
 if_room_end e f lines shown steps more = record { at = λ S a. by_room S a (is_full S) refl }
   where
     by_room : (S : State) (a : Answers) (b : Bool) → is_full S ≡ b
@@ -367,7 +367,8 @@ fewer_loops : (p : Loop → Bool) (ls : List Loop) → length (filter p ls) ≤ 
 fewer_loops p ls = omega (arith, length-filter p ls, count_by-le-length p ls)
 
 for_end : (e : ℕ) (loop : Loop) → Preserves EndChange (for_action e loop)
-for_end e loop = then_keeps EndChange end_joined (change (without_loop loop.letter)) (λ _. if_room e (with_loop loop))
+for_end e loop =
+    then_keeps EndChange end_joined (change (without_loop loop.letter)) (λ _. if_not_full e (with_loop loop))
     (record {
       at = λ S a. record {
         lines = refl;

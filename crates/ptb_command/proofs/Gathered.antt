@@ -9,7 +9,7 @@ use Rattle.ptb_command.specs.declared.stop.Stop.TheVariants as stops
 use Rattle.ptb_code.specs.State.{State}
 use Rattle.ptb_command.specs.Actions.{Faults, Ends, Action, goes_on, halt, show}
 use Rattle.ptb_command.specs.Devices.{Devices, Refusal, no_exchange, nothing_refused}
-use Rattle.ptb_command.specs.Traces.{Trace, trace, with_due, still_due, following, once_shown, after, Leaves}
+use Rattle.ptb_command.specs.Traces.{Trace, trace, with_due, still_due, following, once_shown, state_after, Leaves}
 use Rattle.ptb_command.specs.Traces.{RefinesPart}
 use Rattle.ptb_command.specs.Stops.{Stops, RefinesPartTo, Comes, still_shows}
 use Rattle.ptb_command.proofs.Actions.{show_adds, halt_adds, refines_part_on, stops_first, stops_unrefused}
@@ -36,7 +36,7 @@ gathered_more o due bytes = record {
   exchanges = exchanges_none o.devices;
   fresh = freshens_nothing o.fresh;
   leaves = λ S rest _ w.
-      leaves_to (idle (once_shown (due ++ bytes) (after o [] rest S)))
+      leaves_to (idle (once_shown (due ++ bytes) (state_after o [] rest S)))
       (ap (λ (s : List ℕ). idle (record S { shown = s })) (after_more S.shown due bytes)
       ∙ ap (λ (T : State). idle (once_shown (due ++ bytes) T)) (after_nothing (with_due due o) rest S w))
       (leaves_itself (show bytes (once_shown due S)));
@@ -58,7 +58,7 @@ module _ (d : Devices) (fresh : Bool) (cells : Cells) (due : List ℕ) where
     fresh = m.fresh;
     leaves = λ S rest f w.
         subst (λ (s : List ℕ). Leaves (idle (record S { shown = s })) m.exchange.answers m.exchange.bounds
-        (g (once_shown n.due (after n m.exchange.bytes rest S))))
+        (g (once_shown n.due (state_after n m.exchange.bytes rest S))))
         (sym (after_is S.shown due))
         (m.leaves S rest f (record { fresh = w.fresh; cells = w.cells; lines = w.lines; choose = w.choose }));
   }

@@ -41,7 +41,7 @@ use Rattle.ptb_devices.specs.Sources.{given_lines}
 use Rattle.ptb_command.specs.Devices.{Devices, Exchanges, no_exchange, with_choices, Refusal}
 use Rattle.ptb_command.specs.Devices.{Unread, NoLine, refused_answers}
 use Rattle.ptb_command.specs.Devices.{HasBroken}
-use Rattle.ptb_command.specs.Traces.{Trace, trace, with_due, still_due, after, once_shown, RefinesPart}
+use Rattle.ptb_command.specs.Traces.{Trace, trace, with_due, still_due, state_after, once_shown, RefinesPart}
 use Rattle.ptb_command.specs.Stops.{stop_of, stop_of_device, LacksLine, WantsLine, DeviceFails, Stops}
 use Rattle.ptb_command.specs.Stops.{RefinesPartTo, Comes}
 use Rattle.ptb_command.proofs.Effects.{takes_joined, ask_lines, input_part, input_takes}
@@ -129,7 +129,8 @@ fewer_left m most fewer f = record {
   exchange = no_exchange;
   exchanges = exchanges_most m.devices most fewer;
   fresh = freshens_nothing m.fresh;
-  leaves = λ S rest _ w. leaves_to (f (once_shown m.due (after m [] rest S))) (ap f (once_nothing m m.due rest S w))
+  leaves =
+      λ S rest _ w. leaves_to (f (once_shown m.due (state_after m [] rest S))) (ap f (once_nothing m m.due rest S w))
       (leaves_itself (f (once_shown m.due S)));
 }
 
@@ -426,7 +427,7 @@ module _ (said : List ℕ) (x : Tree) (prompt : List ℕ) where
     fresh = freshens_nothing m.fresh;
     leaves = λ S rest f w.
         let lines : S.lines ≡ [] = w.lines ∙ f none in
-        leaves_to (without_line m.devices.choose at (once_shown m.due (after m [] rest S)))
+        leaves_to (without_line m.devices.choose at (once_shown m.due (state_after m [] rest S)))
         (ap (λ ls. answer_by at ls (once_shown m.due S)) lines
         ∙ ap (λ c. without_line c at (once_shown m.due S)) w.choose
         ∙ ap (without_line m.devices.choose at) (once_nothing m m.due rest S w))
@@ -520,10 +521,10 @@ module _ (said : List ℕ) (x : Tree) (prompt : List ℕ) where
     };
     fresh = freshens_nothing m.fresh;
     leaves = λ S rest f w.
-        let taken : record S { lines = rest } ≡ after m [] rest S =
+        let taken : record S { lines = rest } ≡ state_after m [] rest S =
         after_nothing m rest (record S { lines = rest })
         (record { fresh = w.fresh; cells = w.cells; lines = refl; choose = w.choose }) in
-        leaves_to (line_next at l (once_shown m.due (after m [] rest S)))
+        leaves_to (line_next at l (once_shown m.due (state_after m [] rest S)))
         (ap (λ ls. answer_by at ls (once_shown m.due S)) w.lines ∙ given_same at l rest (once_shown m.due S)
         ∙ ap (λ T. line_next at l (once_shown m.due T)) taken)
         (leaves_itself (wants at (once_shown m.due S)));

@@ -9,7 +9,7 @@ use Rattle.ptb_code.specs.State.{State}
 use Rattle.ptb_command.specs.Actions.{Action, on_progress, and_then}
 use Rattle.ptb_command.specs.Act.{is_fresh}
 use Rattle.ptb_command.specs.Devices.{Exchange, no_exchange, both_exchanges}
-use Rattle.ptb_command.specs.Traces.{Trace, Freshens, Fits, after, once_shown, Leaves, RefinesPart}
+use Rattle.ptb_command.specs.Traces.{Trace, Freshens, Fits, state_after, once_shown, Leaves, RefinesPart}
 use Rattle.ptb_command.proofs.Exchanges.{exchanges_none, exchanges_then, follows_before}
 
 -- ---- questions that are answered
@@ -64,7 +64,7 @@ leaves_at p later = ap (λ h. h later) p.rest
 -- ---- states
 
 pub fits_after : (o n : Trace) (x : Exchange) (rest : List (List ℕ)) (S : State) → Freshens o.fresh x.bytes n.fresh
-    → n.devices.choose ≡ o.devices.choose → Fits o (x.given ++ rest) S → Fits n rest (after n x.bytes rest S)
+    → n.devices.choose ≡ o.devices.choose → Fits o (x.given ++ rest) S → Fits n rest (state_after n x.bytes rest S)
 fits_after o n x rest S fresh same w = record {
   fresh = fresh S.shown w.fresh;
   cells = refl;
@@ -81,7 +81,7 @@ fits_assoc o ks ls rest S w = record {
   choose = w.choose;
 }
 
-pub after_nothing : (o : Trace) (rest : List (List ℕ)) (S : State) → Fits o rest S → S ≡ after o [] rest S
+pub after_nothing : (o : Trace) (rest : List (List ℕ)) (S : State) → Fits o rest S → S ≡ state_after o [] rest S
 after_nothing o rest S w =
     ap (λ (c : Cells). record S { cells = c }) w.cells
     ∙ ap (λ (l : List (List ℕ)). record S { cells = o.cells; lines = l }) w.lines
@@ -89,11 +89,11 @@ after_nothing o rest S w =
 
 -- the same once what is due is shown
 pub once_nothing : (o : Trace) (due : List ℕ) (rest : List (List ℕ)) (S : State) → Fits o rest S
-    → once_shown due S ≡ once_shown due (after o [] rest S)
+    → once_shown due S ≡ once_shown due (state_after o [] rest S)
 once_nothing o due rest S w = ap (once_shown due) (after_nothing o rest S w)
 
 after_twice : (m n : Trace) (a b : List ℕ) (ls rest : List (List ℕ)) (S : State)
-    → after n b rest (after m a ls S) ≡ after n (a ++ b) rest S
+    → state_after n b rest (state_after m a ls S) ≡ state_after n (a ++ b) rest S
 after_twice m n a b ls rest S = ap (λ (h : List ℕ). record S { cells = n.cells; lines = rest; shown = h })
     (append_assoc S.shown a b)
 
@@ -113,7 +113,7 @@ refines_part_same o f g e = record {
   exchanges = exchanges_none o.devices;
   fresh = freshens_nothing o.fresh;
   leaves = λ S rest _ w.
-      leaves_to (g (once_shown o.due (after o [] rest S))) (e (once_shown o.due S) w.cells
+      leaves_to (g (once_shown o.due (state_after o [] rest S))) (e (once_shown o.due S) w.cells
       ∙ ap g (once_nothing o o.due rest S w)) (leaves_itself (f (once_shown o.due S)));
 }
 
@@ -129,10 +129,10 @@ refines_part_then {o = o} {m = m} {n = n} {f = f} {g = g} {h = h} a b = record {
   leaves = λ S rest f w.
       let lines = b.exchange.given ++ rest in
       let fits = fits_assoc o a.exchange.given b.exchange.given rest S w in
-      leaves_to (h (once_shown n.due (after n (a.exchange.bytes ++ b.exchange.bytes) rest S)))
+      leaves_to (h (once_shown n.due (state_after n (a.exchange.bytes ++ b.exchange.bytes) rest S)))
       (ap (λ T. h (once_shown n.due T)) (after_twice m n a.exchange.bytes b.exchange.bytes lines rest S))
       (leaves_then (a.leaves S lines (follows_before b.exchanges rest f) fits)
-      (b.leaves (after m a.exchange.bytes lines S) rest f
+      (b.leaves (state_after m a.exchange.bytes lines S) rest f
       (fits_after o m a.exchange lines S a.fresh a.exchanges.same_choose fits)));
 }
 

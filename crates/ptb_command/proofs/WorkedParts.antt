@@ -19,7 +19,7 @@ use Rattle.ptb_command.specs.Actions.{Ends, Progress, Goes, Halts, goes_on, atte
 use Rattle.ptb_command.specs.Effects.{action_state}
 use Rattle.ptb_command.specs.Effects.{action_state}
 use Rattle.ptb_command.specs.Devices.{Devices, answers_alone, refused_answers, with_choices}
-use Rattle.ptb_command.specs.Traces.{trace, with_due, still_due, after, once_shown, Leaves, RefinesPart}
+use Rattle.ptb_command.specs.Traces.{trace, with_due, still_due, state_after, once_shown, Leaves, RefinesPart}
 use Rattle.ptb_command.specs.Stops.{stop_of, stop_of_pause, IsRefusal, AsksUnanswered, DeviceFails}
 use Rattle.ptb_command.specs.Stops.{Stops, RefinesPartTo}
 use Rattle.ptb_command.proofs.Effects.{attempt_state}
@@ -51,7 +51,7 @@ module _ {A : Type 0} (f : Cells → Work A) (c e : Choices) (d : Devices) (fres
     leaves = λ S rest _ w.
         let n = with_due due (trace (with_choices e d) fresh cells) in
         let later : Answers → Outcome (Progress (Result A Fault)) State =
-        attempt (λ k. g) (once_shown due (after n [] rest S)) in
+        attempt (λ k. g) (once_shown due (state_after n [] rest S)) in
         subst (λ k. Leaves (λ a. map_outcome (λ r. Goes r (once_shown due S)) (λ u. once_shown due S) (f k a)) p.answers
         p.bounds later) (sym w.cells)
         (leaves_to later

@@ -154,8 +154,8 @@ abbrev pub is_full : State → Bool
 is_full S = nat_le nesting_limit (nesting S)
 
 -- where there is no room for one more loop or call, SORRY
-abbrev pub if_room : ℕ → (State → State) → Action (Unit {0})
-if_room e f S a = if is_full S then fails kinds.Sorry e S a else change f S a
+abbrev pub if_not_full : ℕ → (State → State) → Action (Unit {0})
+if_not_full e f S a = if is_full S then fails kinds.Sorry e S a else change f S a
 
 -- ---- IF, GOTO, GOSUB and RETURN
 
@@ -173,7 +173,7 @@ abbrev pub with_call : Place → Place → State → State
 with_call back r S = record S { place = Some r; loops = []; calls = record { back = back; loops = S.loops } ∷ S.calls }
 
 abbrev pub gosub_action : ℕ → Place → Option Place → Action (Unit {0})
-gosub_action e back (Some r) = if_room e (with_call back r)
+gosub_action e back (Some r) = if_not_full e (with_call back r)
 gosub_action e back None = fails kinds.How e
 
 -- the newest level ends, its loops with it
@@ -192,7 +192,7 @@ with_loop loop S = record S { place = Some loop.back; loops = loop ∷ S.loops }
 
 -- an open loop of the same variable is removed first
 abbrev pub for_action : ℕ → Loop → Action (Unit {0})
-for_action e loop = and_then (change (without_loop loop.letter)) (λ _. if_room e (with_loop loop))
+for_action e loop = and_then (change (without_loop loop.letter)) (λ _. if_not_full e (with_loop loop))
 
 -- the loops from that of the variable on
 abbrev pub loops_from : ℕ → List Loop → List Loop

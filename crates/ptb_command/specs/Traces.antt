@@ -4,7 +4,7 @@
 --     with_due due o           the same trace, with these bytes to be shown next
 --     still_due due e          what is to be shown once a part stops for the reason e
 --     Fits o left S            a state that is as the trace says, with these lines left
---     after n bytes left S     such a state later
+--     state_after n bytes left S     such a state later
 --     once_shown due S         such a state once what is due is shown
 --     RefinesPart o n f g            from trace o to trace n, what f does is what is left to do for g
 use Rattle.std.specs.Prelude.{◌≡◌, ◌==◌, ◌-◌, ℕ, Bool, if◌then◌else◌, List, [], ◌∷◌, ◌++◌, length, slice_index, ℤ}
@@ -60,8 +60,8 @@ pub record Fits (o : Trace) (left : List (List ℕ)) (S : State) : Type 0 where
   pub choose : S.choose ≡ o.devices.choose
 
 -- once the trace is n, these bytes were shown, and these lines are left
-abbrev pub after : Trace → List ℕ → List (List ℕ) → State → State
-after n bytes left S = record S { cells = n.cells; lines = left; shown = S.shown ++ bytes }
+abbrev pub state_after : Trace → List ℕ → List (List ℕ) → State → State
+state_after n bytes left S = record S { cells = n.cells; lines = left; shown = S.shown ++ bytes }
 
 -- these bytes after what is shown; what isn't there changes nothing
 abbrev pub following : List ℕ → List ℕ → List ℕ
@@ -87,4 +87,4 @@ pub record RefinesPart {A : Type 0} (o n : Trace) (f g : State → Answers → O
   pub fresh : Freshens o.fresh exchange.bytes n.fresh
   pub leaves : (S : State) (rest : List (List ℕ)) → MayFollow n.devices rest → Fits o (exchange.given ++ rest) S
       → Leaves (f (once_shown o.due S)) exchange.answers exchange.bounds
-      (g (once_shown n.due (after n exchange.bytes rest S)))
+      (g (once_shown n.due (state_after n exchange.bytes rest S)))

@@ -22,7 +22,7 @@ use Rattle.ptb_text.proofs.ByteCounts.{IsCounted_none}
 use Rattle.ptb_text.proofs.LimitedReads.{told_as}
 use Rattle.ptb_devices.specs.declared.line_buffer.InputEnd.{InputEnd}
 use Rattle.ptb_devices.specs.declared.line_buffer.InputEnd.TheVariants.{Open, Ended, Failed, Exceeded}
-use Rattle.ptb_devices.specs.CutLines.{kept_bytes, whole_lines, last_piece, last_line, Cuts}
+use Rattle.ptb_devices.specs.CutLines.{kept_bytes, whole_lines, last_piece, line_of_piece, Cuts}
 use Rattle.ptb_devices.specs.CutLineLaws.{whole_lines-append, last_piece-append}
 use Rattle.ptb_devices.specs.Sources.{Loses}
 use Rattle.ptb_devices.specs.Inputs.{InputState, InputNow, open_piece, cut_bytes}
@@ -78,7 +78,7 @@ ReadsOn_forget wanted m =
 
 -- the line of a last piece, where the bytes end with it or are cut off
 abbrev cut_off : Bool → Option (List ℕ) → List (List ℕ)
-cut_off ends p = if ends then last_line p else (kept_bytes p ∷ [])
+cut_off ends p = if ends then line_of_piece p else (kept_bytes p ∷ [])
 
 lines_to_end-cut : (ends : Bool) (p q : Option (List ℕ)) (front rest : List ℕ) (ls : List (List ℕ)) → Cuts p front ls q
     → lines_to_end ends p (front ++ rest) ≡ ls ++ lines_to_end ends q rest
@@ -126,7 +126,7 @@ none_after (b ∷ front) rest e = absurd (let clash = ap length e in omega arith
 ReadsOn_cut : (wanted : ℕ) (m : InputNow) (given : Bool) (q : Option (List ℕ)) (front rest : List ℕ)
     (ls : List (List ℕ))
     → m.state.is_given ≡ false → m.state.waiting ≡ front ++ rest → Cuts m.state.piece front ls (left_open given q)
-    → length (last_line (left_open given q)) + length ls ≤ length front + length (last_line m.state.piece)
+    → length (line_of_piece (left_open given q)) + length ls ≤ length front + length (line_of_piece m.state.piece)
     → asked m.state ≤ length ls + asked_at m.state.end given
     → ReadsOn wanted m ls (record m { state = record m.state { piece = q; is_given = given; waiting = rest } })
 ReadsOn_cut wanted m given q front rest ls kept whole c fewer asks = record {
@@ -136,7 +136,7 @@ ReadsOn_cut wanted m given q front rest ls kept whole c fewer asks = record {
     fewer,
     ap length whole,
     length-append front rest,
-    ap (λ p. length (last_line p)) (open_piece-kept m.state kept),
+    ap (λ p. length (line_of_piece p)) (open_piece-kept m.state kept),
   );
   taken = [];
   consumed = Consumes-nil m.bytes;
@@ -188,8 +188,8 @@ ReadsOn_whole wanted m line b kept takes =
 
 -- where no line ends, a piece begins at most where there are bytes
 begun_by_bytes : (p q : Option (List ℕ)) (bytes : List ℕ) → Cuts p bytes [] q
-    → length (last_line q) ≤ length bytes + length (last_line p)
-begun_by_bytes p q [] c = omega (arith, ap (λ s. length (last_line s)) c.1)
+    → length (line_of_piece q) ≤ length bytes + length (line_of_piece p)
+begun_by_bytes p q [] c = omega (arith, ap (λ s. length (line_of_piece s)) c.1)
 begun_by_bytes p None (b ∷ bytes) c = omega arith
 begun_by_bytes p (Some kept) (b ∷ bytes) c = omega arith
 
@@ -493,7 +493,7 @@ module _ (wanted k : ℕ) (known : Option (List ℕ)) (x f : ℕ) where
   loses_last kept None = tt
   loses_last kept (Some x) = refl
 
-  pub ReadsOn_last : (p : Option (List ℕ)) → ReadsOn wanted (at_end p false) (last_line p) (at_end p (is_some p))
+  pub ReadsOn_last : (p : Option (List ℕ)) → ReadsOn wanted (at_end p false) (line_of_piece p) (at_end p (is_some p))
   ReadsOn_last None = ReadsOn_none wanted _
   ReadsOn_last (Some kept) = record {
     loses = loses_last kept known;

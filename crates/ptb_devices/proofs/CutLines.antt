@@ -17,7 +17,7 @@ use Rattle.ptb_text.specs.Lines.{onto_first, pieces, tab_as_space, is_printable,
 use Rattle.ptb_text.proofs.Edits.{both}
 use Rattle.ptb_text.proofs.Sound.{both_true}
 use Rattle.ptb_devices.specs.CutLines.{IsClean, cleaned_byte, StayUpTo, with_byte, kept_bytes, whole_lines}
-use Rattle.ptb_devices.specs.CutLines.{last_piece, last_line, Cuts, IsLine, AddsLines}
+use Rattle.ptb_devices.specs.CutLines.{last_piece, line_of_piece, Cuts, IsLine, AddsLines}
 use Rattle.ptb_devices.specs.CutLineLaws.{last_piece-append, whole_lines-append}
 
 -- ---- one byte more
@@ -290,7 +290,7 @@ clean_piece (Some l) = Some (clean_line l)
 
 -- the lines of bytes before which a piece may have begun
 abbrev all_lines : Option (List ℕ) → List ℕ → List (List ℕ)
-all_lines p bytes = whole_lines p bytes ++ last_line (last_piece p bytes)
+all_lines p bytes = whole_lines p bytes ++ line_of_piece (last_piece p bytes)
 
 -- the pieces of bytes before which a piece may have begun
 abbrev onto_pieces : Option (List ℕ) → List (List ℕ) → List (List ℕ)
@@ -313,7 +313,7 @@ at_byte : (p : Option (List ℕ)) (b : ℕ) (bytes : List ℕ) (t : Bool)
     → ((q : Option (List ℕ)) → all_lines (clean_piece q) bytes ≡ map clean_line (onto_pieces q (pieces bytes)))
     → (if t then kept_bytes (clean_piece p) ∷ whole_lines None bytes else whole_lines
     (Some (with_byte (kept_bytes (clean_piece p)) b)) bytes)
-    ++ last_line (if t then last_piece None bytes else last_piece (Some (with_byte (kept_bytes (clean_piece p)) b))
+    ++ line_of_piece (if t then last_piece None bytes else last_piece (Some (with_byte (kept_bytes (clean_piece p)) b))
     bytes)
     ≡ map clean_line (onto_pieces p (if t then [] ∷ pieces bytes else onto_first b (pieces bytes)))
 at_byte None b bytes true rest = ap (λ ls. [] ∷ ls) (rest None)
@@ -332,5 +332,6 @@ all_lines-clean_piece (Some l) [] = refl
 all_lines-clean_piece p (b ∷ bytes) = at_byte p b bytes (b == 10) (λ q. all_lines-clean_piece q bytes)
 
 -- the input lines are those that the bytes end, and a last piece that has begun
-pub input_lines-cut : (bytes : List ℕ) → input_lines bytes ≡ whole_lines None bytes ++ last_line (last_piece None bytes)
+pub input_lines-cut : (bytes : List ℕ)
+    → input_lines bytes ≡ whole_lines None bytes ++ line_of_piece (last_piece None bytes)
 input_lines-cut bytes = clean_line-strip_all (pieces bytes) ∙ sym (all_lines-clean_piece None bytes)

@@ -8,7 +8,7 @@ use Rattle.ptb_text.specs.declared.device_fault.DeviceFault.{DeviceFault}
 use Rattle.ptb_text.specs.Lines.{input_lines}
 use Rattle.ptb_text.specs.Streams.{Reads, ReadsWithin, reads_of}
 use Rattle.ptb_text.proofs.LimitedReads.{TakesUpTo, TakesUpTo_more, TakesUpTo_none, all_taken}
-use Rattle.ptb_devices.specs.CutLines.{last_line, whole_lines, Cuts, AddsLines}
+use Rattle.ptb_devices.specs.CutLines.{line_of_piece, whole_lines, Cuts, AddsLines}
 use Rattle.ptb_devices.proofs.CutLines.{Cuts_more, input_lines-cut}
 
 -- these lines were cut from the bytes that were taken so far
@@ -42,11 +42,12 @@ module _ {R : Type 0} (remaining : R → Option (List ℕ)) (given failures : R 
         }
 
     -- at the end of the bytes, the lines are all of theirs
-    pub lines_to_here : result ≡ Ok pieces.End → (ms : List (List ℕ)) → ms ≡ ls ++ last_line q
+    pub lines_to_here : result ≡ Ok pieces.End → (ms : List (List ℕ)) → ms ≡ ls ++ line_of_piece q
         → IfSome (remaining old) (λ all. ms ≡ input_lines all)
     lines_to_here is ms last =
         let whole : ms ≡ input_lines before.bytes =
-        last ∙ ap (λ l. l ++ last_line q) (sym before.cut.0) ∙ ap (λ s. whole_lines None before.bytes ++ last_line s)
+        last ∙ ap (λ l. l ++ line_of_piece q) (sym before.cut.0)
+        ∙ ap (λ s. whole_lines None before.bytes ++ line_of_piece s)
         (sym before.cut.1)
         ∙ sym (input_lines-cut before.bytes) in
         all_taken remaining given failures limit old mid new left now before.bytes buffer result before.reads step

@@ -12,7 +12,7 @@ use Rattle.ptb_text.specs.declared.device_fault.DeviceFault.{DeviceFault}
 use Rattle.ptb_text.specs.declared.device_fault.DeviceFault.TheVariants.{Read, TooLong, Memory}
 use Rattle.ptb_text.specs.Streams.{ReadsUpTo, ReadsWithin, reads_of}
 use Rattle.ptb_text.proofs.LimitedReads.{ReadsUpTo_after}
-use Rattle.ptb_devices.specs.CutLines.{last_line}
+use Rattle.ptb_devices.specs.CutLines.{line_of_piece}
 use Rattle.ptb_devices.specs.Sources.{IsSourceFault}
 use Rattle.ptb_devices.proofs.ReadLines.{IsCutUpTo, lines_to_here}
 
@@ -62,7 +62,7 @@ module _ {R T : Type 0} (items : T → List (List ℕ)) (limit : ℕ) (remaining
     })
 
     -- there was none, and that is the end
-    pub told_all : read ≡ Ok pieces.End → (x : T) → items x ≡ ls ++ last_line q → IsTold (Ok x)
+    pub told_all : read ≡ Ok pieces.End → (x : T) → items x ≡ ls ++ line_of_piece q → IsTold (Ok x)
     told_all is x last = record {
       lines = lines_to_here remaining given failures limit old mid new left now ls q read buffer before step is
           (items x) last;

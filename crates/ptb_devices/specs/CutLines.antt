@@ -8,7 +8,7 @@
 --     kept_bytes p                 what is kept of the piece p
 --     whole_lines p bytes          the lines that these bytes end, where the piece p has begun before them
 --     last_piece p bytes           the piece that has begun after these bytes
---     last_line p                  the line that p is at the end of the bytes, if it is one
+--     line_of_piece p                  the line that p is at the end of the bytes, if it is one
 --     IsLine line bytes            these bytes are the line and its end, and the cleaned line is the same
 --     Cuts p bytes given q         these bytes end the lines given, and then q has begun
 --     AddsLines p bytes old new q  the lines that these bytes end come after the old ones
@@ -50,9 +50,9 @@ last_piece p (b ∷ bytes) = if b == 10 then last_piece None bytes else last_pie
     (Some (with_byte (kept_bytes p) b)) bytes
 
 -- a last piece that has not begun is no line
-abbrev pub last_line : Option (List ℕ) → List (List ℕ)
-last_line None = []
-last_line (Some kept) = kept ∷ []
+abbrev pub line_of_piece : Option (List ℕ) → List (List ℕ)
+line_of_piece None = []
+line_of_piece (Some kept) = kept ∷ []
 
 abbrev pub Cuts : Option (List ℕ) → List ℕ → List (List ℕ) → Option (List ℕ) → Type 0
 Cuts p bytes given q = (whole_lines p bytes ≡ given) × (last_piece p bytes ≡ q)

@@ -14,7 +14,7 @@ use Rattle.ptb_text.specs.Device.{HasFailed, IsCounted}
 use Rattle.ptb_text.proofs.ByteCounts.{IsCounted_more, IsCounted_none}
 use Rattle.ptb_devices.specs.declared.line_buffer.InputEnd.{InputEnd}
 use Rattle.ptb_devices.specs.declared.line_buffer.InputEnd.TheVariants.{Open, Ended, Failed, Exceeded}
-use Rattle.ptb_devices.specs.CutLines.{whole_lines, last_piece, last_line, Cuts}
+use Rattle.ptb_devices.specs.CutLines.{whole_lines, last_piece, line_of_piece, Cuts}
 use Rattle.ptb_devices.specs.CutLineLaws.{whole_lines-append, last_piece-append}
 use Rattle.ptb_devices.specs.Sources.{Loses, NoneLeft}
 use Rattle.ptb_devices.specs.Inputs.{InputNow, open_piece, cut_at_end, ends_within}
@@ -86,7 +86,7 @@ pub none_known : (m : InputNow) → most_lines m.state ≡ 0 → NoneLeft (known
 none_known m none = by_state m.state.end m.state.waiting (open_piece m.state) refl refl refl m.bytes
   where
     by_bytes : (left : ℕ) (waiting : List ℕ) (p : Option (List ℕ)) (bytes : Option (List ℕ)) → length waiting ≡ 0
-        → length (last_line p) ≡ 0
+        → length (line_of_piece p) ≡ 0
         → NoneLeft (option_map (λ b. lines_to_end true p (waiting ++ cut_at_end Ended left b)) bytes)
     by_bytes left waiting p None e f = tt
     by_bytes left [] None (Some b) e f = refl
@@ -98,8 +98,8 @@ none_known m none = by_state m.state.end m.state.waiting (open_piece m.state) re
         → NoneLeft (option_map (λ b. lines_to_end (ends_within m.state.end m.state.left b) (open_piece m.state)
         (m.state.waiting ++ cut_at_end m.state.end m.state.left b)) bytes)
     by_state Ended waiting p e f g bytes =
-        let none : most_to_come Ended m.state.left + length m.state.waiting + length (last_line (open_piece m.state))
-        ≡ 0 = rw e at none in
+        let none : most_to_come Ended m.state.left + length m.state.waiting
+        + length (line_of_piece (open_piece m.state)) ≡ 0 = rw e at none in
         rw e (by_bytes m.state.left m.state.waiting (open_piece m.state) bytes (omega (arith, none))
         (omega (arith, none)))
     by_state Open waiting p e f g bytes = absurd (omega (arith, rw e at none))

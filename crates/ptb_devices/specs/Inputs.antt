@@ -28,7 +28,7 @@ use Rattle.ptb_devices.specs.declared.line_buffer.InputEnd.TheVariants.{Open, En
 use Rattle.ptb_text.specs.declared.device_fault.DeviceFault.{DeviceFault}
 use Rattle.ptb_text.specs.declared.device_fault.DeviceFault.TheVariants.{Read, TooLong}
 use Rattle.ptb_devices.specs.declared.whole_input.TheConstants.{BUFFER_SIZE, INPUT_LIMIT}
-use Rattle.ptb_devices.specs.CutLines.{kept_bytes, whole_lines, last_piece, last_line, Cuts, IsLine}
+use Rattle.ptb_devices.specs.CutLines.{kept_bytes, whole_lines, last_piece, line_of_piece, Cuts, IsLine}
 use Rattle.ptb_devices.specs.Sources.{Loses}
 
 -- ---- what has come of an input
@@ -77,7 +77,7 @@ ends_within Exceeded left bytes = nat_lt (length bytes) left
 -- is last, and is never given
 abbrev pub lines_to_end : Bool → Option (List ℕ) → List ℕ → List (List ℕ)
 lines_to_end ends p bytes =
-    whole_lines p bytes ++ (if ends then last_line (last_piece p bytes) else (kept_bytes (last_piece p bytes) ∷ []))
+    whole_lines p bytes ++ (if ends then line_of_piece (last_piece p bytes) else (kept_bytes (last_piece p bytes) ∷ []))
 
 abbrev pub lines_left : InputState → List ℕ → List (List ℕ)
 lines_left a bytes = lines_to_end (ends_within a.end a.left bytes) (open_piece a) (a.waiting ++ cut_bytes a bytes)
@@ -91,7 +91,7 @@ most_to_come Failed left = left + 1
 most_to_come Exceeded left = left + 1
 
 abbrev pub most_lines : InputState → ℕ
-most_lines a = most_to_come a.end a.left + length a.waiting + length (last_line (open_piece a))
+most_lines a = most_to_come a.end a.left + length a.waiting + length (line_of_piece (open_piece a))
 
 -- ---- a line is cut
 

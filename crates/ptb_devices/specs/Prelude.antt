@@ -8,7 +8,7 @@ pub use Rattle.ptb_text.specs.Device.{HasFailed, TakesSome}
 pub use Rattle.ptb_text.specs.Lines.{line_limit, clean_line, input_lines}
 pub use Rattle.ptb_text.specs.Streams.{ReadsUpTo, reads_of}
 pub use Rattle.ptb_text.specs.declared.device_fault.DeviceFault.{DeviceFault}
-pub use Rattle.ptb_devices.specs.CutLines.{kept_bytes, IsLine, IsClean, last_line, Cuts, AddsLines, StayUpTo}
+pub use Rattle.ptb_devices.specs.CutLines.{kept_bytes, IsLine, IsClean, line_of_piece, Cuts, AddsLines, StayUpTo}
 pub use Rattle.ptb_devices.specs.Inputs.{fresh_input, fault_at, open_piece, input_now, CutsLine, CutsAll, TakesWhole}
 pub use Rattle.ptb_devices.specs.Inputs.{ReadsOn, Refuses}
 pub use Rattle.ptb_devices.specs.Screens.{screen_writer, IsScreenFault}

@@ -1,7 +1,7 @@
 // This file reads all the input lines of a run at once.
 
 ghost use Rattle.std.specs.Prelude.{◌≡◌, ◌+◌, ℕ, List, ◌++◌, Option, Some, OnOk, IfErr, IfOk, IfSome, IsErrOf, IsOk};
-ghost use Rattle.ptb_devices.specs.Prelude.{input_lines, ReadsUpTo, reads_of, last_line, Cuts, AddsLines};
+ghost use Rattle.ptb_devices.specs.Prelude.{input_lines, ReadsUpTo, reads_of, line_of_piece, Cuts, AddsLines};
 ghost use Rattle.ptb_devices.specs.Prelude.{IsSourceFault};
 
 use crate::cutter::LineCutter;
@@ -71,7 +71,7 @@ fn push_whole(
 
 /// Adds the last line, if a piece has begun.
 fn push_last(alloc: Global, lines: &mut Vec<Line>, cutter: &LineCutter) -> Result<(), AllocError>
-    ensures { OnOk result (lines.new.items ≡ lines.old.items ++ last_line cutter.now) }
+    ensures { OnOk result (lines.new.items ≡ lines.old.items ++ line_of_piece cutter.now) }
 {
     if cutter.has_begun() {
         lines.push(Line::from_kept(alloc, cutter.kept())?)?;

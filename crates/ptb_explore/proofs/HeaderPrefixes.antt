@@ -16,7 +16,7 @@ use Rattle.ptb_answers.specs.declared.form.Form.TheVariants.{One, Two}
 use Rattle.ptb_answers.specs.declared.form.Marked.{Marked}
 use Rattle.ptb_answers.specs.AnswerText.{in_form, item_text, more_spelling, spelling}
 use Rattle.ptb_explore.specs.declared.kept_items.KeptItem.{KeptItem}
-use Rattle.ptb_explore.specs.Begun.{joined, begun, item_of, items_of, AreEnds, BeginsWith}
+use Rattle.ptb_explore.specs.Begun.{joined_items, begun, marked_of, marked_items, AreEnds, BeginsWith}
 use Rattle.ptb_explore.specs.ReportText.{field, report_ending, report_text}
 use Rattle.ptb_explore.proofs.ReportText.{comma_and}
 
@@ -45,7 +45,7 @@ begins_longer new old s h g =
 
 -- one item more
 pub joined_more : (xs : List Marked) (m : Marked)
-    → joined (xs ++ m ∷ []) ≡ joined xs ++ ((if length xs == 0 then [] else codes ",") ++ item_text m)
+    → joined_items (xs ++ m ∷ []) ≡ joined_items xs ++ ((if length xs == 0 then [] else codes ",") ++ item_text m)
 joined_more [] m = append-nil (item_text m)
 joined_more (x ∷ xs) m =
     ap (λ z. item_text x ++ z) (flat_map-append comma_and xs (m ∷ [])
@@ -58,12 +58,12 @@ pub begun_more : (xs : List Marked) (m : Marked) (k : ℕ) → length xs ≡ k
     → begun (xs ++ m ∷ []) ≡ begun xs ++ ((if k == 0 then [] else codes ",") ++ item_text m)
 begun_more xs m k is =
     ap (λ z. codes "RUN " ++ z) (joined_more xs m)
-    ∙ sym (append_assoc (codes "RUN ") (joined xs) ((if length xs == 0 then [] else codes ",") ++ item_text m))
+    ∙ sym (append_assoc (codes "RUN ") (joined_items xs) ((if length xs == 0 then [] else codes ",") ++ item_text m))
     ∙ ap (λ (n : ℕ). begun xs ++ ((if n == 0 then [] else codes ",") ++ item_text m)) is
 
 -- more items
-joined_longer : (xs ys : List Marked) → (rest : List ℕ) × (joined (xs ++ ys) ≡ joined xs ++ rest)
-joined_longer [] ys = (joined ys, refl)
+joined_longer : (xs ys : List Marked) → (rest : List ℕ) × (joined_items (xs ++ ys) ≡ joined_items xs ++ rest)
+joined_longer [] ys = (joined_items ys, refl)
 joined_longer (x ∷ xs) ys = (
   more_spelling ys,
   ap (λ z. item_text x ++ z) (flat_map-append comma_and xs ys)
@@ -75,7 +75,7 @@ pub begins_with_fewer : (text : List ℕ) (xs ys : List Marked) → BeginsWith t
 begins_with_fewer text xs ys h =
     let l = joined_longer xs ys in
     let is : begun (xs ++ ys) ≡ begun xs ++ l.0 = ap (λ z. codes "RUN " ++ z) l.1
-    ∙ sym (append_assoc (codes "RUN ") (joined xs) l.0) in
+    ∙ sym (append_assoc (codes "RUN ") (joined_items xs) l.0) in
     begins_shorter text (begun xs) l.0 (subst (BeginsWith text) is h)
 
 pub begins_with_first : (text : List ℕ) (xs : List Marked) (n : ℕ) → BeginsWith text (begun xs)
@@ -102,7 +102,7 @@ ending_joined : (r a w s z n t m : List ℕ)
     → (r ++ a) ++ (w ++ s ++ z ++ n ++ t ++ m) ≡ r ++ a ++ w ++ s ++ z ++ n ++ t ++ m
 ending_joined r a w s z n t m = simp append_assoc
 
-spelling_is : (items : List Marked) → 0 < length items → joined items ≡ spelling items
+spelling_is : (items : List Marked) → 0 < length items → joined_items items ≡ spelling items
 spelling_is [] some = absurd (omega (arith, some))
 spelling_is (m ∷ items) some = refl
 
@@ -121,44 +121,45 @@ take_take (suc m) zero xs h = absurd (omega (arith, h))
 take_take (suc m) (suc n) [] h = refl
 take_take (suc m) (suc n) (x ∷ xs) h = ap (λ l. x ∷ l) (take_take m n xs (omega (arith, h)))
 
-pub items_cut : (kept : List KeptItem) (c : ℕ) → items_of (take c kept) ≡ take c (items_of kept)
-items_cut kept c = sym (take-map item_of c kept)
+pub items_cut : (kept : List KeptItem) (c : ℕ) → marked_items (take c kept) ≡ take c (marked_items kept)
+items_cut kept c = sym (take-map marked_of c kept)
 
 pub ends_cut : (kept : List KeptItem) (c : ℕ) → AreEnds kept → AreEnds (take c kept)
 ends_cut kept c h k x within =
     let l : length (take c kept) ≡ min c (length kept) = length-take c kept in
     let in_cut : k < c = omega (arith, within, l) in
     let in_kept : k < length kept = omega (arith, within, l) in
-    let same : take (k + 1) (items_of kept) ≡ take (k + 1) (items_of (take c kept)) =
-    sym (ap (take (k + 1)) (items_cut kept c) ∙ take_take (k + 1) c (items_of kept) (omega (arith, in_cut))) in
+    let same : take (k + 1) (marked_items kept) ≡ take (k + 1) (marked_items (take c kept)) =
+    sym (ap (take (k + 1)) (items_cut kept c) ∙ take_take (k + 1) c (marked_items kept) (omega (arith, in_cut))) in
     ap (λ (z : KeptItem). z.end) (get_or-take c kept k x in_cut) ∙ h k x in_kept ∙ ap (λ z. length (begun z)) same
 
-items_push : (kept : List KeptItem) (e : KeptItem) → items_of (kept ++ e ∷ []) ≡ items_of kept ++ item_of e ∷ []
+items_push : (kept : List KeptItem) (e : KeptItem)
+    → marked_items (kept ++ e ∷ []) ≡ marked_items kept ++ marked_of e ∷ []
 items_push [] e = refl
-items_push (x ∷ kept) e = ap (λ l. item_of x ∷ l) (items_push kept e)
+items_push (x ∷ kept) e = ap (λ l. marked_of x ∷ l) (items_push kept e)
 
-pub length-items_of : (kept : List KeptItem) → length (items_of kept) ≡ length kept
+pub length-items_of : (kept : List KeptItem) → length (marked_items kept) ≡ length kept
 length-items_of [] = refl
 length-items_of (x ∷ kept) = ap suc (length-items_of kept)
 
 ends_push : (kept : List KeptItem) (e : KeptItem) → AreEnds kept
-    → e.end ≡ length (begun (items_of kept ++ item_of e ∷ [])) → AreEnds (kept ++ e ∷ [])
+    → e.end ≡ length (begun (marked_items kept ++ marked_of e ∷ [])) → AreEnds (kept ++ e ∷ [])
 ends_push kept e h is k x within = at (eq-or-lt_of_le most)
   where
     most : k ≤ length kept
     most = omega (arith, within, length-append kept (e ∷ []))
 
     at : (k ≡ length kept) ⊎ (k < length kept)
-        → (get_or (kept ++ e ∷ []) k x).end ≡ length (begun (take (k + 1) (items_of (kept ++ e ∷ []))))
+        → (get_or (kept ++ e ∷ []) k x).end ≡ length (begun (take (k + 1) (marked_items (kept ++ e ∷ []))))
     at (inl last) =
-        let all : take (k + 1) (items_of (kept ++ e ∷ [])) ≡ items_of kept ++ item_of e ∷ [] =
-        take_all (k + 1) (items_of (kept ++ e ∷ []))
+        let all : take (k + 1) (marked_items (kept ++ e ∷ [])) ≡ marked_items kept ++ marked_of e ∷ [] =
+        take_all (k + 1) (marked_items (kept ++ e ∷ []))
         (omega (arith, last, length-items_of (kept ++ e ∷ []), length-append kept (e ∷ []))) ∙ items_push kept e in
         ap (λ n. (get_or (kept ++ e ∷ []) n x).end) last ∙ ap (λ (z : KeptItem). z.end) (get_or-append_seam kept e [] x)
         ∙ is ∙ ap (λ z. length (begun z)) (sym all)
     at (inr before) =
-        let same : take (k + 1) (items_of kept) ≡ take (k + 1) (items_of (kept ++ e ∷ [])) =
-        sym (ap (take (k + 1)) (items_push kept e) ∙ take-append-le (k + 1) (items_of kept) (item_of e ∷ [])
+        let same : take (k + 1) (marked_items kept) ≡ take (k + 1) (marked_items (kept ++ e ∷ [])) =
+        sym (ap (take (k + 1)) (items_push kept e) ∙ take-append-le (k + 1) (marked_items kept) (marked_of e ∷ [])
         (omega (arith, before, length-items_of kept))) in
         ap (λ (z : KeptItem). z.end) (get_or-append kept (e ∷ []) x k before) ∙ h k x before
         ∙ ap (λ z. length (begun z)) same
@@ -175,21 +176,22 @@ module _ (items : List Marked) (k : ℕ) (m : Marked) (within : k < length items
       grown ∙ ap (λ z. z ++ ((if k == 0 then [] else codes ",") ++ item_text m)) is
       ∙ sym (begun_more (take k items) m k (length-take-le k items (omega (arith, within)))) ∙ ap begun (sym added)
 
-  module _ (kept new : List KeptItem) (e : KeptItem) (grown : new ≡ kept ++ e ∷ []) (same : item_of e ≡ m)
-      (is : items_of kept ≡ take k items) where
-    pub items_kept : items_of new ≡ take (k + 1) items
+  module _ (kept new : List KeptItem) (e : KeptItem) (grown : new ≡ kept ++ e ∷ []) (same : marked_of e ≡ m)
+      (is : marked_items kept ≡ take k items) where
+    pub items_kept : marked_items new ≡ take (k + 1) items
     items_kept =
-        ap items_of grown ∙ items_push kept e ∙ ap (λ x. x ++ item_of e ∷ []) is
+        ap marked_items grown ∙ items_push kept e ∙ ap (λ x. x ++ marked_of e ∷ []) is
         ∙ ap (λ x. take k items ++ x ∷ []) same ∙ sym added
 
     pub ends_kept : AreEnds kept → e.end ≡ length (begun (take (k + 1) items)) → AreEnds new
     ends_kept h end =
-        let all : take (k + 1) items ≡ items_of kept ++ item_of e ∷ [] =
-        added ∙ ap (λ x. take k items ++ x ∷ []) (sym same) ∙ ap (λ x. x ++ item_of e ∷ []) (sym is) in
+        let all : take (k + 1) items ≡ marked_items kept ++ marked_of e ∷ [] =
+        added ∙ ap (λ x. take k items ++ x ∷ []) (sym same) ∙ ap (λ x. x ++ marked_of e ∷ []) (sym is) in
         subst AreEnds (sym grown) (ends_push kept e h (end ∙ ap (λ z. length (begun z)) all))
 
 -- a text of the first k items begins with those that are kept
 pub begins_kept : (items : List Marked) (k : ℕ) (text : List ℕ) (kept : List KeptItem) → text ≡ begun (take k items)
-    → items_of kept ≡ take k items → BeginsWith text (begun (items_of kept))
+    → marked_items kept ≡ take k items → BeginsWith text (begun (marked_items kept))
 begins_kept items k text kept is of =
-    subst (λ z. BeginsWith z (begun (items_of kept))) (ap begun of ∙ sym is) (take-length (begun (items_of kept)))
+    subst (λ z. BeginsWith z (begun (marked_items kept))) (ap begun of ∙ sym is)
+    (take-length (begun (marked_items kept)))

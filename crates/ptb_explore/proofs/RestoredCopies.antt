@@ -18,7 +18,7 @@ use Rattle.ptb_machine.specs.Play.{play}
 use Rattle.ptb_explore.specs.Copies.{Agrees, GoesBack, GoesBackTo, WentBack, last_steps}
 use Rattle.ptb_explore.specs.Plans.{IsFresh}
 use Rattle.ptb_explore.specs.PlannedPlays.{IsRunPrefix}
-use Rattle.ptb_explore.specs.Recorders.{choices_of, recorded}
+use Rattle.ptb_explore.specs.Recorders.{recorder_choices, recorded}
 use Rattle.ptb_explore.proofs.Recorded.{fresh_bounds}
 use Rattle.ptb_explore.proofs.RunPrefix.{run_prefix_at_first}
 use Rattle.ptb_explore.proofs.Trial.{fresh_plan}
@@ -44,12 +44,13 @@ pub begun_prefix : {B E : Type 0} (r : Result B E) (at : B → Configuration) (p
     (rules : Rules) (trial : Recorder) (fresh : IsFresh trial) (begins : source.taken ≡ 0) (shown : List ℕ)
     (cut : shown ≡ [])
     → IfOk r (λ b. (input : List (List ℕ)) (choose : Option ℤ) → Represents p.lines (at b) (first_state p input choose))
-    → IfOk r (λ b. IsRunPrefix p source.lines rules (choices_of trial) shown (drop source.taken source.lines) (at b))
+    → IfOk r (λ b. IsRunPrefix p source.lines rules (recorder_choices trial) shown (drop source.taken source.lines)
+    (at b))
 begun_prefix r at p source rules trial fresh begins shown cut =
-    let taken : (choices_of trial).taken ≡ [] =
+    let taken : (recorder_choices trial).taken ≡ [] =
     ap (λ (bs : List ℤ). take (length bs) (recorded trial)) (fresh_bounds trial fresh) in
-    let kept : (choices_of trial).kept ≡ Some [] = ap Some (fresh_bounds trial fresh) in
-    IfOk-weaker r _ _ (λ b first. rw (begins, cut) (run_prefix_at_first p source.lines rules (choices_of trial)
+    let kept : (recorder_choices trial).kept ≡ Some [] = ap Some (fresh_bounds trial fresh) in
+    IfOk-weaker r _ _ (λ b first. rw (begins, cut) (run_prefix_at_first p source.lines rules (recorder_choices trial)
     (at b) taken kept (first source.lines rules.choose)))
 
 pub begun_steps : {B E : Type 0} (r : Result B E) (at : B → Configuration) (p : StoredProgram) (kept : List KeptCopy)

@@ -17,7 +17,7 @@ use Rattle.ptb_explore.specs.Beginnings.{stopped}
 use Rattle.ptb_explore.specs.Copies.{Agrees}
 use Rattle.ptb_explore.specs.Plans.{PlanEndsWith, IsPosition, PlansNext, stopping_plan}
 use Rattle.ptb_explore.specs.PlannedPlays.{Holds, NextIsOutside, PlayEnds}
-use Rattle.ptb_explore.specs.Recorders.{choices_of, given_bounds, recorded}
+use Rattle.ptb_explore.specs.Recorders.{recorder_choices, given_bounds, recorded}
 use Rattle.ptb_explore.specs.RunTree.{IsRun}
 use Rattle.ptb_explore.proofs.Attempt.{all_ones, out_closes, run_closes}
 use Rattle.ptb_explore.proofs.RaisedAnswers.{plan_begins}
@@ -141,7 +141,7 @@ module _ (play : Answers → Outcome Finish (List ℕ)) (most : ℕ) (reads : Is
   }
 
   -- it came to an end
-  ended : (result : Finish) → Holds play (choices_of r) (λ later. Done result later)
+  ended : (result : Finish) → Holds play (recorder_choices r) (λ later. Done result later)
       → PlanEndsWith (stopped n play) plan taken (given_bounds r) tt
   ended result h = by_cut cut
     where
@@ -162,7 +162,7 @@ module _ (play : Answers → Outcome Finish (List ℕ)) (most : ℕ) (reads : Is
           absurd cc
 
   -- it was stopped
-  stopped_there : NextIsOutside play (choices_of r) r.refused_bound
+  stopped_there : NextIsOutside play (recorder_choices r) r.refused_bound
       → PlanEndsWith (stopped n play) plan taken (given_bounds r) tt
   stopped_there h = by_next (next_is plan ones taken h.later h.next (sym planned ∙ h.plan_is))
     where
@@ -181,9 +181,9 @@ module _ (play : Answers → Outcome Finish (List ℕ)) (most : ℕ) (reads : Is
           ends_with ones (omega arith) e (asking_run play n most reads taken r.refused_bound h.beside all h.asks) theirs
 
   pub beginning_ends : (steps : ℕ) (shown : List ℕ) (e : Ending)
-      → PlayEnds play (choices_of r) r.refused_bound steps shown e
+      → PlayEnds play (recorder_choices r) r.refused_bound steps shown e
       → PlanEndsWith (stopped n play) plan taken (given_bounds r) tt
-  beginning_ends steps shown e h = elim (over_or_outside play (choices_of r) r.refused_bound steps shown e h)
+  beginning_ends steps shown e h = elim (over_or_outside play (recorder_choices r) r.refused_bound steps shown e h)
       [ inl over ↦ ended _ over | inr outside ↦ stopped_there outside ]
 
 -- ---- the plan of the next list

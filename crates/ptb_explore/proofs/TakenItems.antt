@@ -16,7 +16,7 @@ use Rattle.ptb_explore.specs.declared.recorder.Recorder.{Recorder}
 use Rattle.ptb_explore.specs.Mismatch.{IsOutOfRange, IsOver, TakesItems}
 use Rattle.ptb_explore.specs.MarkedRuns.{states_bounds}
 use Rattle.ptb_explore.specs.PlannedPlays.{Holds, PlayEnds, NextIsOutside}
-use Rattle.ptb_explore.specs.Recorders.{choices_of, given_bounds, recorded}
+use Rattle.ptb_explore.specs.Recorders.{recorder_choices, given_bounds, recorded}
 use Rattle.ptb_explore.proofs.Mismatches.{HasBounds, answers_length, answers_split, answers_take}
 use Rattle.ptb_explore.proofs.Mismatches.{no_question, out_of_range, split_there, take_twice}
 use Rattle.ptb_explore.proofs.Trial.{begun_opens, open_ends, over_or_outside}
@@ -35,7 +35,7 @@ module _ (play : Answers → Outcome Finish (List ℕ)) (r : Recorder) (steps : 
 
   -- all items were taken
   module _ (all : length list ≤ count) (e : Ending)
-      (h : PlayEnds play (choices_of r) r.refused_bound steps shown e) where
+      (h : PlayEnds play (recorder_choices r) r.refused_bound steps shown e) where
     begun : (is_open (play plan) ≡ true) × (take (length plan) (given_bounds r) ≡ bounds play plan)
     begun = begun_opens play r steps shown most reads plan planned (omega (arith, plan_count)) e h
 
@@ -82,24 +82,26 @@ module _ (play : Answers → Outcome Finish (List ℕ)) (r : Recorder) (steps : 
           bounds_are = take-length (given_bounds r) ∙ same ∙ sym (ap (bounds play) first_taken);
         }
 
-    ended_run : (result : Finish) → Holds play (choices_of r) (λ later. Done result later) → play taken ≡ Done result []
+    ended_run : (result : Finish) → Holds play (recorder_choices r) (λ later. Done result later)
+        → play taken ≡ Done result []
     ended_run result h = ap play (sym (append-nil taken)) ∙ h.rest []
 
-    takes_ended : (result : Finish) → Holds play (choices_of r) (λ later. Done result later)
+    takes_ended : (result : Finish) → Holds play (recorder_choices r) (λ later. Done result later)
         → TakesItems play list (given_bounds r) count
     takes_ended result h = takes_open (ap is_open (ended_run result h)) h.bounds_are
 
-    takes_outside : (bound : ℤ) → NextIsOutside play (choices_of r) bound → TakesItems play list (given_bounds r) count
+    takes_outside : (bound : ℤ) → NextIsOutside play (recorder_choices r) bound
+        → TakesItems play list (given_bounds r) count
     takes_outside bound h = takes_open (ap is_open h.asks) h.bounds_are
 
-    takes_some : (e : Ending) → PlayEnds play (choices_of r) r.refused_bound steps shown e
+    takes_some : (e : Ending) → PlayEnds play (recorder_choices r) r.refused_bound steps shown e
         → TakesItems play list (given_bounds r) count
-    takes_some e h = elim (over_or_outside play (choices_of r) r.refused_bound steps shown e h)
+    takes_some e h = elim (over_or_outside play (recorder_choices r) r.refused_bound steps shown e h)
         [ inl over ↦ takes_ended _ over | inr outside ↦ takes_outside _ outside ]
 
     module _ (d : Marked) (states : states_bounds (take count list) (given_bounds r) ≡ true) where
       -- its answer is out of range
-      pub stops_outside : NextIsOutside play (choices_of r) r.refused_bound
+      pub stops_outside : NextIsOutside play (recorder_choices r) r.refused_bound
           → IsOutOfRange play list (count + 1) (slice_index_or list count d).answer r.refused_bound
       stops_outside h =
           let next = (slice_index_or list count d).answer in
@@ -115,12 +117,13 @@ module _ (play : Answers → Outcome Finish (List ℕ)) (r : Recorder) (steps : 
           (ap play first_taken ∙ h.asks) (subst (λ (k : ℤ). is_answer r.refused_bound k ≡ false) same h.outside)
 
       -- the run is over before it
-      stops_ended : (result : Finish) → Holds play (choices_of r) (λ later. Done result later) → IsOver play list count
+      stops_ended : (result : Finish) → Holds play (recorder_choices r) (λ later. Done result later)
+          → IsOver play list count
       stops_ended result h = no_question play most reads list (given_bounds r) count
           (takes_ended result h) d less states (ap is_whole (ap play first_taken ∙ ended_run result h))
 
       pub stops_over : (e : Ending) → (e ≡ endings.BadAnswer → ⊥)
-          → PlayEnds play (choices_of r) r.refused_bound steps shown e → IsOver play list count
+          → PlayEnds play (recorder_choices r) r.refused_bound steps shown e → IsOver play list count
       stops_over endings.End other h = stops_ended _ h
       stops_over endings.Stop other h = stops_ended _ h
       stops_over endings.What other h = stops_ended _ h
@@ -133,7 +136,7 @@ module _ (play : Answers → Outcome Finish (List ℕ)) (r : Recorder) (steps : 
 
   -- as many were taken as there are bounds, or all
   pub takes_items : (n : ℕ) → ((n ≡ length list) × (length list ≤ count)) ⊎ ((n ≡ count) × (count < length list))
-      → (e : Ending) → PlayEnds play (choices_of r) r.refused_bound steps shown e
+      → (e : Ending) → PlayEnds play (recorder_choices r) r.refused_bound steps shown e
       → TakesItems play list (given_bounds r) n
   takes_items n (inl all) e h = subst (TakesItems play list (given_bounds r)) (sym all.0) (takes_all all.1 e h)
   takes_items n (inr some) e h = subst (TakesItems play list (given_bounds r)) (sym some.0) (takes_some some.1 e h)

@@ -14,7 +14,7 @@ use Rattle.ptb_answers.specs.Asked.{bounds_in}
 use Rattle.ptb_explore.specs.declared.recorder.Recorder.{Recorder}
 use Rattle.ptb_explore.specs.RunTree.{IsRun}
 use Rattle.ptb_explore.specs.Plans.{IsFresh, PlanEndsWith}
-use Rattle.ptb_explore.specs.Recorders.{choices_of, given_bounds, recorded}
+use Rattle.ptb_explore.specs.Recorders.{recorder_choices, given_bounds, recorded}
 use Rattle.ptb_command.specs.declared.ending.Ending.{Ending}
 use Rattle.ptb_machine.specs.Play.{Finish}
 use Rattle.ptb_explore.specs.PlannedPlays.{Holds, NextIsOutside, PlayEnds}
@@ -29,7 +29,7 @@ take_twice (suc m) (suc n) [] l = refl
 take_twice (suc m) (suc n) (x ∷ xs) l = ap (λ r. x ∷ r) (take_twice m n xs (omega arith))
 
 module _ {A W : Type 0} (play : Answers → Outcome A W) (r : Recorder) (result : A)
-    (h : Holds play (choices_of r) (λ later. Done result later)) where
+    (h : Holds play (recorder_choices r) (λ later. Done result later)) where
   taken_bounds : (given_bounds r) ≡ bounds play (take (length (given_bounds r)) (recorded r))
   taken_bounds = let k = h.bounds_are in cc
 
@@ -61,7 +61,7 @@ result_is x y a b e = cc
 
 -- a recorder that has a bound for each of its answers gave them all
 pub all_given : {A W : Type 0} (play : Answers → Outcome A W) (r : Recorder)
-    → (given_bounds r) ≡ bounds play (recorded r) → (choices_of r).taken ≡ (recorded r)
+    → (given_bounds r) ≡ bounds play (recorded r) → (recorder_choices r).taken ≡ (recorded r)
 all_given play r e = ap (λ n. take n (recorded r)) (ap length e ∙ length-bounds play [] (recorded r))
     ∙ take-length (recorded r)
 
@@ -85,15 +85,15 @@ module _ (play : Answers → Outcome Finish (List ℕ)) (r : Recorder) (steps : 
     (reads : IsReader play most) (plan : Answers) (planned : take r.planned (recorded r) ≡ plan) where
   module _ (opens : is_open (play plan) ≡ true) where
     ended_so : (e : Ending)
-        → Holds play (choices_of r) (λ later. Done (record { ending = e; steps = steps; shown = shown }) later)
+        → Holds play (recorder_choices r) (λ later. Done (record { ending = e; steps = steps; shown = shown }) later)
         → PlanEndsWith play plan (recorded r) (given_bounds r) (record { ending = e; steps = steps; shown = shown })
     ended_so e h = rw (← planned) (trial_ends play r (record { ending = e; steps = steps; shown = shown }) h most reads
         (rw planned opens))
 
     -- a plan that is open is played to an end
-    pub open_ends : (e : Ending) → PlayEnds play (choices_of r) r.refused_bound steps shown e
+    pub open_ends : (e : Ending) → PlayEnds play (recorder_choices r) r.refused_bound steps shown e
         → PlanEndsWith play plan (recorded r) (given_bounds r) (record { ending = e; steps = steps; shown = shown })
-    open_ends e h = elim (over_or_outside play (choices_of r) r.refused_bound steps shown e h) [
+    open_ends e h = elim (over_or_outside play (recorder_choices r) r.refused_bound steps shown e h) [
       | inl over ↦ ended_so e over
       | inr outside ↦
           absurd (let closed : is_open (play plan) ≡ false = ap is_open (ap play (sym planned) ∙ outside.out) in cc)
@@ -109,7 +109,7 @@ module _ (play : Answers → Outcome Finish (List ℕ)) (r : Recorder) (steps : 
         sym (ap (λ n. take n (recorded r)) same ∙ take-length (recorded r)) ∙ planned
 
     whole_so : (e : Ending)
-        → Holds play (choices_of r) (λ later. Done (record { ending = e; steps = steps; shown = shown }) later)
+        → Holds play (recorder_choices r) (λ later. Done (record { ending = e; steps = steps; shown = shown }) later)
         → IsRun play plan × ((recorded r) ≡ plan) × ((given_bounds r) ≡ bounds play plan)
         × (play plan ≡ Done (record { ending = e; steps = steps; shown = shown }) [])
     whole_so e h =
@@ -136,10 +136,10 @@ module _ (play : Answers → Outcome Finish (List ℕ)) (r : Recorder) (steps : 
           taken,
         )
 
-    pub whole_plan : (e : Ending) → PlayEnds play (choices_of r) r.refused_bound steps shown e
+    pub whole_plan : (e : Ending) → PlayEnds play (recorder_choices r) r.refused_bound steps shown e
         → IsRun play plan × ((recorded r) ≡ plan) × ((given_bounds r) ≡ bounds play plan)
         × (play plan ≡ Done (record { ending = e; steps = steps; shown = shown }) [])
-    whole_plan e h = elim (over_or_outside play (choices_of r) r.refused_bound steps shown e h) [
+    whole_plan e h = elim (over_or_outside play (recorder_choices r) r.refused_bound steps shown e h) [
       | inl over ↦ whole_so e over
       | inr outside ↦ absurd (too_long outside.next outside.later (sym planned ∙ outside.plan_is))
     ]
@@ -152,7 +152,7 @@ module _ (play : Answers → Outcome Finish (List ℕ)) (r : Recorder) (steps : 
         length-take-le r.planned (recorded r) (omega (arith, r.within, (recorded_len r))) in
         sym planned ∙ ap (λ k. take k (recorded r)) (sym n ∙ ap length planned)
 
-    begun_so : (result : Finish) → Holds play (choices_of r) (λ later. Done result later)
+    begun_so : (result : Finish) → Holds play (recorder_choices r) (λ later. Done result later)
         → (is_open (play plan) ≡ true) × (take (length plan) (given_bounds r) ≡ bounds play plan)
     begun_so result h =
         let taken = take (length (given_bounds r)) (recorded r) in
@@ -171,9 +171,9 @@ module _ (play : Answers → Outcome Finish (List ℕ)) (r : Recorder) (steps : 
               ∙ take-length (bounds play plan),
         )
 
-    pub begun_opens : (e : Ending) → PlayEnds play (choices_of r) r.refused_bound steps shown e
+    pub begun_opens : (e : Ending) → PlayEnds play (recorder_choices r) r.refused_bound steps shown e
         → (is_open (play plan) ≡ true) × (take (length plan) (given_bounds r) ≡ bounds play plan)
-    begun_opens e h = elim (over_or_outside play (choices_of r) r.refused_bound steps shown e h) [
+    begun_opens e h = elim (over_or_outside play (recorder_choices r) r.refused_bound steps shown e h) [
       | inl over ↦ begun_so _ over
       | inr outside ↦
           let within : length (given_bounds r) ≤ length (recorded r) =

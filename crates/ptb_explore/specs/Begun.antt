@@ -1,7 +1,7 @@
 -- This file defines the header of a report as far as its items, and what is kept of it.
 --     begun items              the header up to the end of these items
---     item_of kept             the item that is kept
---     items_of kept            the items that are kept
+--     marked_of kept             the item that is kept
+--     marked_items kept            the items that are kept
 --     AreEnds kept             each item has the number of bytes that the header has up to its end
 --     BeginsWith text front    the front is a prefix of the text
 use Rattle.std.specs.Prelude.{◌≡◌, ℕ, ◌+◌, ◌<◌, List, [], ◌∷◌, ◌++◌, codes, get_or, length, map, take}
@@ -10,22 +10,22 @@ use Rattle.ptb_answers.specs.AnswerText.{spelling}
 use Rattle.ptb_explore.specs.declared.kept_items.KeptItem.{KeptItem}
 
 -- items joined by commas, of which there may be none
-abbrev pub joined : List Marked → List ℕ
-joined [] = []
-joined (m ∷ list) = spelling (m ∷ list)
+abbrev pub joined_items : List Marked → List ℕ
+joined_items [] = []
+joined_items (m ∷ list) = spelling (m ∷ list)
 
 abbrev pub begun : List Marked → List ℕ
-begun items = codes "RUN " ++ joined items
+begun items = codes "RUN " ++ joined_items items
 
-abbrev pub item_of : KeptItem → Marked
-item_of kept = record { answer = kept.answer; bound = kept.bound }
+abbrev pub marked_of : KeptItem → Marked
+marked_of kept = record { answer = kept.answer; bound = kept.bound }
 
-abbrev pub items_of : List KeptItem → List Marked
-items_of kept = map item_of kept
+abbrev pub marked_items : List KeptItem → List Marked
+marked_items kept = map marked_of kept
 
 abbrev pub AreEnds : List KeptItem → Type 0
 AreEnds kept = (k : ℕ) (x : KeptItem) → k < length kept
-    → (get_or kept k x).end ≡ length (begun (take (k + 1) (items_of kept)))
+    → (get_or kept k x).end ≡ length (begun (take (k + 1) (marked_items kept)))
 
 abbrev pub BeginsWith : List ℕ → List ℕ → Type 0
 BeginsWith text front = take (length front) text ≡ front

@@ -5,7 +5,7 @@
 --     game_of r                    what a runner plays
 --     IsSameListing old new        what is explored stays, wherever the explorer is
 --     IsSameGame old new           a runner plays what it did
---     finish_of r                  how the run of a report ended
+--     report_finish r                  how the run of a report ended
 --     Reports play r               r is the report of the run of its answers
 --     NextReports play u f r found it is that of the next run, or there is none
 --     HasRunCopies old new         the copies are of the run of the report
@@ -86,11 +86,11 @@ IsSameGame old new = new ≡ record old {
 
 -- ---- reports
 
-abbrev pub finish_of : Report → Finish
-finish_of r = record { ending = r.ending; steps = r.steps; shown = r.transcript.items }
+abbrev pub report_finish : Report → Finish
+report_finish r = record { ending = r.ending; steps = r.steps; shown = r.transcript.items }
 
 pub record Reports (play : Answers → Outcome Finish (List ℕ)) (r : Report) : Type 0 where
-  pub outcome : play (answers_in r.asked.items) ≡ Done (finish_of r) []
+  pub outcome : play (answers_in r.asked.items) ≡ Done (report_finish r) []
   pub bounds_are : bounds_in r.asked.items ≡ bounds play (answers_in r.asked.items)
 
 abbrev pub NextReports : (Answers → Outcome Finish (List ℕ)) → Answers → Front → Report → Bool → Type 0

@@ -20,7 +20,7 @@ use Rattle.ptb_explore.specs.declared.mismatch.Mismatch.TheVariants.{OutOfRange,
 use Rattle.ptb_explore.specs.declared.mismatch.Mismatch.TheVariants.{NoQuestion, Missing, NotUnder}
 use Rattle.ptb_explore.specs.declared.recorder.Recorder.{Recorder}
 use Rattle.ptb_explore.specs.PlannedPlays.{PlayEnds}
-use Rattle.ptb_explore.specs.Recorders.{choices_of}
+use Rattle.ptb_explore.specs.Recorders.{recorder_choices}
 use Rattle.ptb_explore.specs.MarkedRuns.{IsMarkedRun, IsMarkedBeginning}
 use Rattle.ptb_explore.specs.RunTree.{begins_with}
 
@@ -112,5 +112,5 @@ pub record MismatchLaws {A W : Type 0} (play : Answers → Outcome A W) : Type 0
 abbrev pub Explains : ((Answers → Outcome Finish (List ℕ)) → Mismatch → Type 0) → Recorder → Ending → Option Mismatch
     → Type 0
 Explains Why trial ending found = (game : Answers → Outcome Finish (List ℕ)) (most steps : ℕ) (shown : List ℕ)
-    → IsReader game most → PlayEnds game (choices_of trial) trial.refused_bound steps shown ending
+    → IsReader game most → PlayEnds game (recorder_choices trial) trial.refused_bound steps shown ending
     → IfSome found (Why game)

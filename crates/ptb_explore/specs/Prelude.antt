@@ -16,12 +16,12 @@ pub use Rattle.ptb_text.specs.Device.{HasFailed, TakesSome}
 pub use Rattle.ptb_text.specs.Statements.{StoredProgram}
 pub use Rattle.ptb_explore.specs.Beginnings.{beginning_line, split_play, stopped, FindsBeginning, IsSameSearch, MovesTo}
 pub use Rattle.ptb_explore.specs.Beginnings.{BeginningLaws}
-pub use Rattle.ptb_explore.specs.Begun.{begun, item_of, items_of, AreEnds, BeginsWith}
+pub use Rattle.ptb_explore.specs.Begun.{begun, marked_of, marked_items, AreEnds, BeginsWith}
 pub use Rattle.ptb_explore.specs.Chances.{chance_of_all}
 pub use Rattle.ptb_explore.specs.Copies.{Agrees, AreCopies, PlaysOn, kept_runs, AreBeginnings, more_played, play_limit}
 pub use Rattle.ptb_explore.specs.Copies.{WentBack, last_steps}
 pub use Rattle.ptb_explore.specs.Explorations.{AreCopiesAt, HasRunCopies, IsSameGame, NextPlays, game_of, play_of}
-pub use Rattle.ptb_explore.specs.Explorations.{most_of, IsSameListing, exploration, IsAdded, IsPlayed, finish_of}
+pub use Rattle.ptb_explore.specs.Explorations.{most_of, IsSameListing, exploration, IsAdded, IsPlayed, report_finish}
 pub use Rattle.ptb_explore.specs.Explorations.{NextReports, Resumes}
 pub use Rattle.ptb_explore.specs.Laws.{ListingLaws, ReportLaws, ShareLaws, TreeLaws}
 pub use Rattle.ptb_explore.specs.Listing.{FailsToWrite, FailsOnlyToWrite, NextWrites, WritesRuns, less_one}
@@ -31,9 +31,9 @@ pub use Rattle.ptb_explore.specs.Mismatch.{Explains, IsItemMismatch, IsRunMismat
 pub use Rattle.ptb_explore.specs.PlannedPlays.{PlayEnds, IsRunPrefix}
 pub use Rattle.ptb_explore.specs.Plans.{PlanEndsWith, IsFresh, IsPosition, front_at, IsTaken, IsTakenAlone, IsLastBelow}
 pub use Rattle.ptb_explore.specs.Plans.{AreAtBounds, HasPlan, PlansNext}
-pub use Rattle.ptb_explore.specs.Recorders.{recorded, choices_of}
+pub use Rattle.ptb_explore.specs.Recorders.{recorded, recorder_choices}
 pub use Rattle.ptb_explore.specs.Report.{ending_word, report}
-pub use Rattle.ptb_explore.specs.ReportText.{asked_items, field, list_line, report_ending, report_text, text_of}
+pub use Rattle.ptb_explore.specs.ReportText.{asked_items, field, list_line, report_ending, report_text, text_of_report}
 pub use Rattle.ptb_explore.specs.ReportText.{WritesText}
 pub use Rattle.ptb_explore.specs.RunTree.{At, IsLast, Start, runs_left, tree, IsNextRun, IsRun, begins_with}
 pub use Rattle.ptb_explore.specs.Sampling.{SampleLaws, PlaysDrawn, WritesRun, WritesSample}

@@ -1,7 +1,7 @@
 -- This file defines what a recorder holds, and why it gives no answer.
 --     recorded r                   the answers of a recorder: those that it gave, and then those that are planned
 --     given_bounds r               the bounds of those that it gave
---     choices_of r                 a recorder as a chooser: its plan, what it gave, and with which bounds
+--     recorder_choices r                 a recorder as a chooser: its plan, what it gave, and with which bounds
 --     RefusedByPlan c bound z n    it pauses at a question with bound n, which it keeps where its answer is out of
 --                                  range
 use Rattle.std.specs.Prelude.{◌≡◌, List, ◌∷◌, ◌++◌, length, take, false, Some, ℤ}
@@ -18,8 +18,8 @@ recorded r = answers_in r.asked.items
 abbrev pub given_bounds : Recorder → List ℤ
 given_bounds r = bounds_in (take r.given r.asked.items)
 
-abbrev pub choices_of : Recorder → Choices
-choices_of r = record {
+abbrev pub recorder_choices : Recorder → Choices
+recorder_choices r = record {
   plan = take r.planned (recorded r);
   taken = take (length (given_bounds r)) (recorded r);
   kept = Some (given_bounds r);

@@ -3,7 +3,7 @@
 --                                             bytes it showed
 --     asked_items form asked                  the answers of a run, each with its bound, as a form has them
 --     report_text items word steps shown      the header, what the run showed, and a newline
---     text_of report                          the same of what a report has
+--     text_of_report report                          the same of what a report has
 --     list_line items                         a list of answers, and a newline
 --     report_ending word steps shown          what a report has after its answers
 --     WritesText text old new before after result     the text was written, or a prefix of it where the writer failed
@@ -35,8 +35,8 @@ header items word steps size = codes "RUN " ++ spelling items ++ field word ++ f
 abbrev pub report_text : List Marked → List ℕ → ℕ → List ℕ → List ℕ
 report_text items word steps shown = header items word steps (length shown) ++ shown ++ codes "\n"
 
-abbrev pub text_of : Parts → List ℕ
-text_of report = report_text (asked_items report.form report.asked.now) report.word.now report.steps
+abbrev pub text_of_report : Parts → List ℕ
+text_of_report report = report_text (asked_items report.form report.asked.now) report.word.now report.steps
     report.transcript.now
 
 abbrev pub report_ending : List ℕ → ℕ → List ℕ → List ℕ

@@ -3,7 +3,7 @@
 ghost use Rattle.std.specs.Prelude.{◌≡◌, ◌≤◌, [], length, take, List, ℕ, IfSome, IfNone, true};
 ghost use Rattle.ptb_explore.specs.Prelude.{Answers, Outcome, IsReader, answers_of, bounds_in, Finish, states_bounds};
 ghost use Rattle.ptb_explore.specs.Prelude.{Explains, IsItemMismatch, IsRunMismatch, MismatchLaws, TakesItems, IsTaken};
-ghost use Rattle.ptb_explore.specs.Prelude.{IsTakenAlone, choices_of};
+ghost use Rattle.ptb_explore.specs.Prelude.{IsTakenAlone, recorder_choices};
 
 use crate::recorder::Recorder;
 use ptb_answers::{Asked, Marked};
@@ -68,7 +68,7 @@ fn bound_mismatch(list: &[Marked], taken: usize, asked: &[Asked]) -> Option<Mism
 /// to this ending; or `None` where a run begins with the list. An item that is out of range and also
 /// states another bound is out of range.
 pub(crate) fn item_mismatch(list: &[Marked], trial: &Recorder, ending: Ending) -> Option<Mismatch>
-    requires { (choices_of trial.now).plan ≡ answers_of list.now }
+    requires { (recorder_choices trial.now).plan ≡ answers_of list.now }
     ensures taken { IfNone result (IsTaken (length list.now) list.now trial.now) }
     ensures mismatch { Explains (λ game. IsItemMismatch game list.now) trial.now ending result }
 {
@@ -93,7 +93,7 @@ pub(crate) fn item_mismatch(list: &[Marked], trial: &Recorder, ending: Ending) -
 /// Why the items of a list are no run, as [`item_mismatch`] finds it, or that one is missing; or `None`
 /// where they are a run.
 pub(crate) fn run_mismatch(list: &[Marked], trial: &Recorder, ending: Ending) -> Option<Mismatch>
-    requires { (choices_of trial.now).plan ≡ answers_of list.now }
+    requires { (recorder_choices trial.now).plan ≡ answers_of list.now }
     ensures taken { IfNone result (IsTakenAlone (length list.now) list.now trial.now) }
     ensures mismatch { Explains (λ game. IsRunMismatch game [] list.now) trial.now ending result }
 {

@@ -2,7 +2,7 @@
 
 ghost use Rattle.std.specs.Prelude.{◌≡◌, ◌+◌, ◌<◌, ◌≤◌, false, Ok, true, IfOk, OnOk, OnErr, IsTrue};
 ghost use Rattle.ptb_explore.specs.Prelude.{answers_of, is_open, answers_in, bounds_in, PlaysOn, kept_runs, play_limit};
-ghost use Rattle.ptb_explore.specs.Prelude.{game_of, finish_of, AreCopiesAt, IsSameGame, HasRunCopies, NextPlays};
+ghost use Rattle.ptb_explore.specs.Prelude.{game_of, report_finish, AreCopiesAt, IsSameGame, HasRunCopies, NextPlays};
 ghost use Rattle.ptb_explore.specs.Prelude.{NextReports, Resumes, front_at, PlanEndsWith, IsPosition, recorded, IsLast};
 
 use crate::plan::{Position, plan_next};
@@ -19,7 +19,7 @@ impl<'a> Runner<'a> {
         ensures same { IsSameGame self.old self.new }
         ensures ends { OnOk result (PlanEndsWith (game_of self.old) (recorded self.old.trial)
             (answers_in self.new.report.asked.items) (bounds_in self.new.report.asked.items)
-            (finish_of self.new.report)) }
+            (report_finish self.new.report)) }
         ensures asked { OnErr result (self.new.report.asked.items ≡ self.old.report.asked.items) }
         ensures copies { OnOk result (HasRunCopies self.old self.new) }
         ensures played { OnOk result (PlaysOn common self.old.copies.kept.items self.old.played

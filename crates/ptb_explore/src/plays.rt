@@ -2,7 +2,7 @@
 
 ghost use Rattle.std.specs.Prelude.{◌≡◌, ◌-◌, ◌<◌, ◌+◌, ◌≤◌, false, [], length, drop, IfOk, OnOk, OnErr};
 ghost use Rattle.ptb_explore.specs.Prelude.{play, AreCopies, more_played, play_limit, game_of, IsSameGame, IsFresh};
-ghost use Rattle.ptb_explore.specs.Prelude.{PlayEnds, IsRunPrefix, choices_of, recorded};
+ghost use Rattle.ptb_explore.specs.Prelude.{PlayEnds, IsRunPrefix, recorder_choices, recorded};
 
 use crate::copies::Progress;
 use crate::fault::memory_refusal;
@@ -29,19 +29,19 @@ impl<'a> Runner<'a> {
         requires unspent { machine.old.spent ≡ false }
         requires within { source.old.taken ≤ length source.old.lines }
         requires run_prefix { IsRunPrefix self.old.player source.old.lines self.old.rules
-            (choices_of self.old.trial) screen.old (drop source.old.taken source.old.lines) machine.old }
+            (recorder_choices self.old.trial) screen.old (drop source.old.taken source.old.lines) machine.old }
         requires copies { AreCopies self.old.player source.old.lines self.old.rules
-            (choices_of self.old.trial).taken screen.old self.old.copies.kept.items }
+            (recorder_choices self.old.trial).taken screen.old self.old.copies.kept.items }
         ensures same { self.new ≡ record self.old {
           trial = self.new.trial;
           copies = self.new.copies;
         } }
         ensures plan { OnOk result
-            ((choices_of self.new.trial).plan ≡ (choices_of self.old.trial).plan) }
+            ((recorder_choices self.new.trial).plan ≡ (recorder_choices self.old.trial).plan) }
         ensures ends { IfOk result (PlayEnds (play self.old.player source.old.lines self.old.rules)
-            (choices_of self.new.trial) self.new.trial.refused_bound machine.new.steps screen.new) }
+            (recorder_choices self.new.trial) self.new.trial.refused_bound machine.new.steps screen.new) }
         ensures copies { OnOk result (AreCopies self.old.player source.old.lines self.old.rules
-            (choices_of self.new.trial).taken screen.new self.new.copies.kept.items) }
+            (recorder_choices self.new.trial).taken screen.new self.new.copies.kept.items) }
     {
         run_laws();
         let rules = self.rules;
@@ -85,20 +85,20 @@ impl<'a> Runner<'a> {
         requires unspent { machine.old.spent ≡ false }
         requires within { source.old.taken ≤ length source.old.lines }
         requires run_prefix { IsRunPrefix self.old.player source.old.lines self.old.rules
-            (choices_of self.old.trial) screen.old (drop source.old.taken source.old.lines) machine.old }
+            (recorder_choices self.old.trial) screen.old (drop source.old.taken source.old.lines) machine.old }
         requires copies { AreCopies self.old.player source.old.lines self.old.rules
-            (choices_of self.old.trial).taken screen.old self.old.copies.kept.items }
+            (recorder_choices self.old.trial).taken screen.old self.old.copies.kept.items }
         ensures same { self.new ≡ record self.old {
           trial = self.new.trial;
           copies = self.new.copies;
           played = self.new.played;
         } }
         ensures plan { OnOk result
-            ((choices_of self.new.trial).plan ≡ (choices_of self.old.trial).plan) }
+            ((recorder_choices self.new.trial).plan ≡ (recorder_choices self.old.trial).plan) }
         ensures ends { IfOk result (PlayEnds (play self.old.player source.old.lines self.old.rules)
-            (choices_of self.new.trial) self.new.trial.refused_bound machine.new.steps screen.new) }
+            (recorder_choices self.new.trial) self.new.trial.refused_bound machine.new.steps screen.new) }
         ensures copies { OnOk result (AreCopies self.old.player source.old.lines self.old.rules
-            (choices_of self.new.trial).taken screen.new self.new.copies.kept.items) }
+            (recorder_choices self.new.trial).taken screen.new self.new.copies.kept.items) }
         ensures played { self.new.played
             ≡ more_played self.old.played (machine.new.steps - machine.old.steps) }
         ensures rises { self.old.played ≤ self.new.played }
@@ -123,11 +123,11 @@ impl<'a> Runner<'a> {
         requires none { self.old.copies.kept.items ≡ [] }
         ensures same { IsSameGame self.old self.new }
         ensures plan { OnOk result
-            ((choices_of self.new.trial).plan ≡ recorded self.old.trial) }
-        ensures ends { IfOk result (PlayEnds (game_of self.old) (choices_of self.new.trial)
+            ((recorder_choices self.new.trial).plan ≡ recorded self.old.trial) }
+        ensures ends { IfOk result (PlayEnds (game_of self.old) (recorder_choices self.new.trial)
             self.new.trial.refused_bound self.new.report.steps self.new.report.transcript.items) }
         ensures copies { OnOk result (AreCopies self.old.player self.old.lines.now self.old.rules
-            (choices_of self.new.trial).taken self.new.report.transcript.items
+            (recorder_choices self.new.trial).taken self.new.report.transcript.items
             self.new.copies.kept.items) }
         ensures played { OnOk result
             (self.new.played ≡ more_played self.old.played self.new.report.steps) }

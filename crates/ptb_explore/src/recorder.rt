@@ -176,11 +176,11 @@ impl Recorder {
 }
 
 impl Chooser for Recorder {
-    ghost use Rattle.ptb_explore.specs.Recorders.{choices_of, RefusedByPlan};
+    ghost use Rattle.ptb_explore.specs.Recorders.{recorder_choices, RefusedByPlan};
 
-    ghost choices = { choices_of };
+    ghost choices = { recorder_choices };
 
-    ghost refused = { λ r. RefusedByPlan (choices_of r) r.refused_bound };
+    ghost refused = { λ r. RefusedByPlan (recorder_choices r) r.refused_bound };
 
     #[inline(always)]
     fn choose(&mut self, bound: i16) -> Result<i16, Pause> {

@@ -4,7 +4,7 @@ ghost use Rattle.std.specs.Prelude.{◌≡◌, ◌==◌, [], ◌++◌, IfErr, On
 ghost use Rattle.ptb_text.specs.Device.{Gathers};
 ghost use Rattle.ptb_answers.specs.AnswerText.{spelling};
 ghost use Rattle.ptb_explore.specs.Prelude.{Appends, TakesSome, HasFailed, in_form, item_text};
-ghost use Rattle.ptb_explore.specs.Prelude.{asked_items, list_line, text_of, WritesText};
+ghost use Rattle.ptb_explore.specs.Prelude.{asked_items, list_line, text_of_report, WritesText};
 
 use itoa::Buffer;
 use ptb_answers::{Asked, Form, Marked};
@@ -107,7 +107,7 @@ pub struct Parts<'a> {
 // Not inlined, so that the code for short reports needs no room for pieces.
 #[inline(never)]
 pub(crate) fn write_in_pieces<W: Write>(out: &mut W, report: &Parts) -> Result<(), DeviceFault>
-    ensures { WritesText (text_of report.now) (W.contents out.old) (W.contents out.new)
+    ensures { WritesText (text_of_report report.now) (W.contents out.old) (W.contents out.new)
         (W.failures out.old) (W.failures out.new) result }
 {
     let mut pending = Pending::new();

@@ -3,8 +3,8 @@
 ghost use Rattle.std.specs.Prelude.{◌≡◌, ◌==◌, ◌+◌, ◌<◌, ◌≤◌, [], ◌∷◌, ◌++◌, length, take, codes, decimal};
 ghost use Rattle.std.specs.Prelude.{IfErr, OnOk, OnErr, IsTrue, IsFalse, if◌then◌else◌, ℤ, Option, None, Some};
 ghost use Rattle.ptb_explore.specs.Prelude.{signed_decimal, Appends, TakesSome, HasFailed, in_form, item_text};
-ghost use Rattle.ptb_explore.specs.Prelude.{asked_items, field, report_ending, text_of, begun, item_of};
-ghost use Rattle.ptb_explore.specs.Prelude.{items_of, AreEnds, BeginsWith};
+ghost use Rattle.ptb_explore.specs.Prelude.{asked_items, field, report_ending, text_of_report, begun, marked_of};
+ghost use Rattle.ptb_explore.specs.Prelude.{marked_items, AreEnds, BeginsWith};
 
 use crate::kept_items::{KeptItem, KeptItems, MOST_ITEMS};
 use crate::report_text::{Parts, write_in_pieces};
@@ -41,7 +41,7 @@ fn bound_in(form: Form, bound: i16) -> Option<i16>
 // Whether an item is the one of an answer, as a form has it.
 #[inline(always)]
 fn is_item(item: &KeptItem, answer: i16, bound: Option<i16>) -> bool
-    ensures { IsTrue result → item_of item.now ≡ record { answer = answer; bound = bound } }
+    ensures { IsTrue result → marked_of item.now ≡ record { answer = answer; bound = bound } }
 {
     if item.answer != answer {
         return false;
@@ -58,7 +58,7 @@ fn is_item(item: &KeptItem, answer: i16, bound: Option<i16>) -> bool
 fn count_same(items: &[KeptItem], form: Form, asked: &[Asked]) -> usize
     ensures items { result ≤ length items.now }
     ensures asked { result ≤ length asked.now }
-    ensures same { take result (items_of items.now)
+    ensures same { take result (marked_items items.now)
         ≡ take result (asked_items form asked.now) }
 {
     let most = items.len().min(asked.len());
@@ -75,7 +75,7 @@ fn count_same(items: &[KeptItem], form: Form, asked: &[Asked]) -> usize
 #[inline(always)]
 fn end_of(kept: &[KeptItem], count: usize) -> usize
     requires { count ≤ length kept.now }
-    ensures end { AreEnds kept.now → result ≡ length (begun (take count (items_of kept.now))) }
+    ensures end { AreEnds kept.now → result ≡ length (begun (take count (marked_items kept.now))) }
 {
     if count == 0 {
         START.len()
@@ -87,12 +87,12 @@ fn end_of(kept: &[KeptItem], count: usize) -> usize
 // Cuts the items and their text, so that so many items are left.
 #[inline(always)]
 fn cut(kept: &mut KeptItems, text: &mut Text, count: usize)
-    requires begins { BeginsWith text.old (begun (items_of kept.old)) }
+    requires begins { BeginsWith text.old (begun (marked_items kept.old)) }
     requires ends { AreEnds kept.old }
     requires within { count ≤ length kept.old }
-    ensures items { items_of kept.new ≡ take count (items_of kept.old) }
+    ensures items { marked_items kept.new ≡ take count (marked_items kept.old) }
     ensures ends { AreEnds kept.new }
-    ensures text { text.new ≡ begun (take count (items_of kept.old)) }
+    ensures text { text.new ≡ begun (take count (marked_items kept.old)) }
 {
     let end = end_of(kept.as_slice(), count);
     kept.truncate(count);
@@ -182,10 +182,10 @@ fn add_items(
 ) -> bool
     requires few { length asked.now ≤ 256 }
     requires within { first ≤ length asked.now }
-    requires items { items_of kept.old ≡ take first (asked_items form asked.now) }
+    requires items { marked_items kept.old ≡ take first (asked_items form asked.now) }
     requires ends { AreEnds kept.old }
     requires text { text.old ≡ begun (take first (asked_items form asked.now)) }
-    ensures begins { BeginsWith text.new (begun (items_of kept.new)) }
+    ensures begins { BeginsWith text.new (begun (marked_items kept.new)) }
     ensures ends { AreEnds kept.new }
     ensures all { IsTrue result
         → text.new ≡ begun (asked_items form asked.now) }
@@ -284,7 +284,7 @@ pub struct ReportWriter {
     kept: KeptItems,
     // The text of the report, or a prefix of it.
     text: Text,
-    ghost begins: { BeginsWith text (begun (items_of kept)) },
+    ghost begins: { BeginsWith text (begun (marked_items kept)) },
     ghost ends: { AreEnds kept },
 }
 
@@ -302,7 +302,7 @@ impl ReportWriter {
     // Makes the text of a report that has answers. Says whether there was room for it.
     #[inline(always)]
     fn gather(&mut self, report: &Parts) -> bool
-        ensures { IsTrue result → self.new.text ≡ text_of report.now }
+        ensures { IsTrue result → self.new.text ≡ text_of_report report.now }
     {
         let (form, asked) = (report.form, report.asked);
         if asked.is_empty() {
@@ -328,9 +328,9 @@ impl ReportWriter {
     #[inline(always)]
     pub fn write<W: Write>(&mut self, out: &mut W, report: &Parts) -> Result<(), DeviceFault>
         ensures ok { OnOk result
-            (Appends (W.contents out.old) (W.contents out.new) (text_of report.now)) }
+            (Appends (W.contents out.old) (W.contents out.new) (text_of_report report.now)) }
         ensures fault { OnErr result
-            (TakesSome (W.contents out.old) (W.contents out.new) (text_of report.now)) }
+            (TakesSome (W.contents out.old) (W.contents out.new) (text_of_report report.now)) }
         ensures failed { OnErr result (HasFailed (W.failures out.old) (W.failures out.new)) }
         ensures kind { IfErr result (λ fault. fault ≡ DeviceFault.Write) }
         ensures unfailed { OnOk result (W.failures out.new ≡ W.failures out.old) }

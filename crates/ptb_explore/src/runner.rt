@@ -3,7 +3,7 @@
 ghost use Rattle.std.specs.Prelude.{◌≡◌, ◌+◌, ◌<◌, ◌≤◌, false, [], length, drop, IfOk, OnOk};
 ghost use Rattle.ptb_explore.specs.Prelude.{play, answers_in, bounds_in, Agrees, AreCopies, PlaysOn, WentBack};
 ghost use Rattle.ptb_explore.specs.Prelude.{last_steps, play_limit, game_of, IsSameGame, Resumes, IsRunPrefix};
-ghost use Rattle.ptb_explore.specs.Prelude.{PlayEnds, IsFresh, choices_of, recorded};
+ghost use Rattle.ptb_explore.specs.Prelude.{PlayEnds, IsFresh, recorder_choices, recorded};
 
 use crate::copies::Copies;
 use crate::recorder::Recorder;
@@ -87,15 +87,15 @@ impl<'a> Runner<'a> {
           trial = self.new.trial;
           copies = self.new.copies;
         } }
-        ensures plan { (choices_of self.new.trial).plan ≡ recorded self.old.trial }
+        ensures plan { (recorder_choices self.new.trial).plan ≡ recorded self.old.trial }
         ensures same_lines { source.new.lines ≡ source.old.lines }
         ensures within { OnOk result (source.new.taken ≤ length source.new.lines) }
         ensures unspent { IfOk result (λ b. b.value.spent ≡ false) }
         ensures run_prefix { IfOk result (λ b. IsRunPrefix self.old.player source.old.lines
-            self.old.rules (choices_of self.new.trial) screen.new
+            self.old.rules (recorder_choices self.new.trial) screen.new
             (drop source.new.taken source.new.lines) b.value) }
         ensures copies { OnOk result (AreCopies self.old.player source.old.lines self.old.rules
-            (choices_of self.new.trial).taken screen.new self.new.copies.kept.items) }
+            (recorder_choices self.new.trial).taken screen.new self.new.copies.kept.items) }
         ensures back { OnOk result
             (WentBack common self.old.copies.kept.items self.new.copies.kept.items) }
         ensures steps { IfOk result (λ b. b.value.steps ≡ last_steps self.new.copies.kept.items) }
@@ -132,13 +132,13 @@ impl<'a> Runner<'a> {
         requires { Resumes self.old common }
         ensures same { IsSameGame self.old self.new }
         ensures plan { OnOk result
-            ((choices_of self.new.trial).plan ≡ recorded self.old.trial) }
-        ensures ends { OnOk result (PlayEnds (game_of self.old) (choices_of self.new.trial)
+            ((recorder_choices self.new.trial).plan ≡ recorded self.old.trial) }
+        ensures ends { OnOk result (PlayEnds (game_of self.old) (recorder_choices self.new.trial)
             self.new.trial.refused_bound
             self.new.report.steps self.new.report.transcript.items self.new.report.ending) }
         ensures asked { self.new.report.asked.items ≡ self.old.report.asked.items }
         ensures copies { OnOk result (AreCopies self.old.player self.old.lines.now self.old.rules
-            (choices_of self.new.trial).taken self.new.report.transcript.items
+            (recorder_choices self.new.trial).taken self.new.report.transcript.items
             self.new.copies.kept.items) }
         ensures played { OnOk result (PlaysOn common self.old.copies.kept.items self.old.played
             self.new.report.steps self.new.played) }

@@ -19,7 +19,7 @@ use Rattle.ptb_expr.specs.Tree.{Tree, Num, Var, Size, Elem, Rnd, Abs, Neg, Bin, 
 use Rattle.ptb_expr.specs.Value.{Work, fault, or_fault, operation, negation, absolute_value}
 use Rattle.ptb_expr.specs.Value.{random_number, value, target_of}
 use Rattle.ptb_expr.specs.Reading.{Reading, Whole, Malformed, item_of, node_over, expression, variable_tree}
-use Rattle.ptb_expr.specs.Spells.{Part, Expr, Sum, First, MoreSum, Product, MoreProduct, Factor}
+use Rattle.ptb_expr.specs.Spells.{Production, Expr, Sum, First, MoreSum, Product, MoreProduct, Factor}
 use Rattle.ptb_expr.specs.Spells.{Variable, Paren, Spells}
 use Rattle.ptb_expr.specs.Spells as spells
 use Rattle.ptb_expr.specs.Marks.{MarksWithin}
@@ -137,7 +137,7 @@ module _ (laws : FindingLaws) (t : List ℕ) where
   node_marked node i m (Malformed x) f h g d = f x m d h
 
   -- the tree that a list continues from
-  abbrev IsBefore : Part → Type 0
+  abbrev IsBefore : Production → Type 0
   IsBefore (MoreSum x) = MarksWithin (length t) x
   IsBefore (MoreProduct x) = MarksWithin (length t) x
   IsBefore _ = Unit {0}
@@ -155,7 +155,7 @@ module _ (laws : FindingLaws) (t : List ℕ) where
   sum_end i r d x k e = let h : LiesAhead t i k = ahead laws t Sum i (Whole x k) (subst (Spells t Sum i) e d) in
       h.within
 
-  marked : (part : Part) (i : ℕ) (r : Reading Tree) → Spells t part i r → i ≤ length t → IsBefore part → Marked r
+  marked : (part : Production) (i : ℕ) (r : Reading Tree) → Spells t part i r → i ≤ length t → IsBefore part → Marked r
   marked part i r (spells.sum_alone {j = j} {x = x} d e) low b = marked Sum i (Whole x j) d low tt
   marked part i r (spells.compared {j = j} {k = k} {x = x} {op = op} {r = q} d e h) low b =
       let a : LiesAhead t j k = comparison_ahead laws t j op k e in

@@ -21,7 +21,7 @@ use Rattle.ptb_expr.specs.Tree.{Tree, Num, Var, Size, Elem, Rnd, Abs, Neg, Bin, 
 use Rattle.ptb_expr.specs.Reading.{Reading, Whole, Malformed, if_there, if_number, if_function}
 use Rattle.ptb_expr.specs.Reading.{after, itself, node_over, missing_part}
 use Rattle.ptb_expr.specs.Reading as reading
-use Rattle.ptb_expr.specs.Spells.{Part, Expr, Sum, First, MoreSum, Product, MoreProduct, Factor}
+use Rattle.ptb_expr.specs.Spells.{Production, Expr, Sum, First, MoreSum, Product, MoreProduct, Factor}
 use Rattle.ptb_expr.specs.Spells.{Variable, Paren, Spells}
 use Rattle.ptb_expr.specs.Spells as spells
 
@@ -101,7 +101,7 @@ module _ (laws : FindingLaws) (t : List ℕ) where
   node_ahead node m i (Whole y j) h = h
   node_ahead node m i (Malformed y) h = tt
 
-  abbrev pub AheadOf : Part → ℕ → Reading Tree → Type 0
+  abbrev pub AheadOf : Production → ℕ → Reading Tree → Type 0
   AheadOf (MoreSum x) i r = Onward i r
   AheadOf (MoreProduct x) i r = Onward i r
   AheadOf _ i r = Ahead i r
@@ -109,7 +109,7 @@ module _ (laws : FindingLaws) (t : List ℕ) where
   number_ahead : (i j : ℕ) (v : ℤ) → number_at t i ≡ (Value v, j) → LiesAhead t i j
   number_ahead i j v e = laws.number t i (Value v) j e refl
 
-  pub ahead : (part : Part) (i : ℕ) (r : Reading Tree) → Spells t part i r → AheadOf part i r
+  pub ahead : (part : Production) (i : ℕ) (r : Reading Tree) → Spells t part i r → AheadOf part i r
   ahead part i r (spells.sum_alone {j = j} {x = x} d e) = ahead Sum i (Whole x j) d
   ahead part i r (spells.compared {j = j} {k = k} {x = x} {op = op} {r = q} d e h) =
       further_ahead i k (node_over (Bin op x) k q) (further i j k (ahead Sum i (Whole x j) d)
@@ -159,7 +159,7 @@ module _ (laws : FindingLaws) (t : List ℕ) where
 
   -- the rest of a list, where `part` is one of its parts
   more_spelled : (operator : ℕ → Option (Operator × ℕ)) → ((i : ℕ) → AllAhead i (operator i))
-      → (read : ℕ → Reading Tree) (part : Part) (rest_of : Tree → Part)
+      → (read : ℕ → Reading Tree) (part : Production) (rest_of : Tree → Production)
       → ((i j : ℕ) (x : Tree) → Spells t part i (Whole x j) → LiesAhead t i j)
       → ((j : ℕ) (x : Tree) → operator j ≡ None → Spells t (rest_of x) j (Whole x j))
       → ((j k l : ℕ) (x y : Tree) (op : Operator) (r : Reading Tree) → operator j ≡ Some (op, k)
@@ -195,7 +195,7 @@ module _ (laws : FindingLaws) (t : List ℕ) where
       go (Some (op, k)) e ih = inner op k e ih (read k) (h k (omega (arith, falls j k (op_ahead j op k e))))
 
   -- a part, and then the rest of its list
-  list_spelled : (part list : Part) (rest_of : Tree → Part)
+  list_spelled : (part list : Production) (rest_of : Tree → Production)
       → ((i j : ℕ) (x : Tree) (r : Reading Tree) → Spells t part i (Whole x j) → Spells t (rest_of x) j r
       → Spells t list i r)
       → ((i : ℕ) (x : Tree) → Spells t part i (Malformed x) → Spells t list i (Malformed x))

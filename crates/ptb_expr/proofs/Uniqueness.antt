@@ -14,7 +14,7 @@ use Rattle.ptb_expr.specs.Tree.{Tree, Num, Var, Size, Elem, Rnd, Abs, Neg, Bin, 
 use Rattle.ptb_expr.specs.Reading.{Reading, Whole, Malformed, after, itself, node_over, missing_part, more}
 use Rattle.ptb_expr.specs.Reading.{paren, variable_or, variable, plain, factor, product, first_product}
 use Rattle.ptb_expr.specs.Reading.{sum, expr_with, expr}
-use Rattle.ptb_expr.specs.Spells.{Part, Expr, Sum, First, MoreSum, Product, MoreProduct, Factor}
+use Rattle.ptb_expr.specs.Spells.{Production, Expr, Sum, First, MoreSum, Product, MoreProduct, Factor}
 use Rattle.ptb_expr.specs.Spells.{Variable, Paren, Spells}
 use Rattle.ptb_expr.specs.Spells as spells
 use Rattle.ptb_expr.proofs.SpelledTrees.{rest, falls, product_operator_ahead, sum_operator_ahead}
@@ -162,7 +162,7 @@ module _ (t : List ℕ) (within : ℕ → Reading Tree) where
 
 module _ (laws : FindingLaws) (t : List ℕ) where
   -- what is read of a part, where parentheses are at most n deep and the rest of a list has at most m parts
-  abbrev read : ℕ → ℕ → Part → ℕ → Reading Tree
+  abbrev read : ℕ → ℕ → Production → ℕ → Reading Tree
   read n m Expr i = expr_with t (expr t n) i
   read n m Sum i = sum t (expr t n) i
   read n m First i = first_product t (expr t n) i
@@ -174,7 +174,7 @@ module _ (laws : FindingLaws) (t : List ℕ) where
   read n m Paren i = paren t (expr t n) i
 
   -- it is all of it
-  abbrev IsRead : Part → ℕ → Reading Tree → Type 0
+  abbrev IsRead : Production → ℕ → Reading Tree → Type 0
   IsRead part i r = (n m : ℕ) → rest laws t i ≤ n → rest laws t i ≤ m → r ≡ read n m part i
 
   inside : (i j : ℕ) (r : Reading Tree) → rest laws t j < rest laws t i → IsRead Expr j r → (n : ℕ) → rest laws t i ≤ n
@@ -197,7 +197,7 @@ module _ (laws : FindingLaws) (t : List ℕ) where
   spoils operator reads x y op j k zero less low e d = absurd (omega arith)
   spoils operator reads x y op j k (suc m) less low e d = sym (more_malformed operator reads m x y op j k e d)
 
-  is_read : (part : Part) (i : ℕ) (r : Reading Tree) → Spells t part i r → IsRead part i r
+  is_read : (part : Production) (i : ℕ) (r : Reading Tree) → Spells t part i r → IsRead part i r
   is_read part i r (spells.sum_alone {j = j} {x = x} d e) =
       λ n m p q. expr_alone t (expr t n) i j x (is_read Sum i (Whole x j) d n m p q) e
   is_read part i r (spells.compared {j = j} {k = k} {x = x} {op = op} {r = s} d e h) = λ n m p q.
@@ -279,7 +279,7 @@ module _ (laws : FindingLaws) (t : List ℕ) where
       (inside i j (Malformed x) (falls laws t i j (laws.token 40 t i j e)) (is_read Expr j (Malformed x) d) n p)
   is_read part i r (spells.not_opened e) = λ n m p q. paren_missing t (expr t n) i e
 
-  pub unique : (part : Part) (i : ℕ) (r s : Reading Tree) → Spells t part i r → Spells t part i s → r ≡ s
+  pub unique : (part : Production) (i : ℕ) (r s : Reading Tree) → Spells t part i r → Spells t part i s → r ≡ s
   unique part i r s d e =
       let n = length t in
       is_read part i r d n n (omega arith) (omega arith) ∙ sym (is_read part i s e n n (omega arith) (omega arith))

@@ -4,14 +4,14 @@ pub use Rattle.ptb_text.specs.CursorState.{bytes_left}
 pub use Rattle.ptb_text.specs.Finding.{LiesAhead, StandsNext, past_byte}
 pub use Rattle.ptb_text.specs.Words.{word_at, IsFunction, letter_at, next_byte_at, token_at}
 pub use Rattle.ptb_text.specs.declared.word.Table.TheVariants.{Functions}
-pub use Rattle.ptb_expr.specs.ReadSteps.{Reads, Fails}
+pub use Rattle.ptb_expr.specs.ReadSteps.{ReadsSteps, FailsSteps, operand_steps}
 pub use Rattle.ptb_expr.specs.Evaluate.{Evaluates, IsEvaluated, IsMarkedWithin, IsTarget, IsWhole, variable_target}
 pub use Rattle.ptb_expr.specs.Evaluate.{variable_there, expression_there}
 pub use Rattle.ptb_expr.specs.Operators.{product_operator, sum_operator, comparison}
 pub use Rattle.ptb_expr.specs.Reading.{item_of}
 pub use Rattle.ptb_expr.specs.Spells.{Spells, Variable, Expr, Sum, First, Product, Factor, Paren}
-pub use Rattle.ptb_expr.specs.Starts.{BeginsFactor, IsBefore, start_room}
-pub use Rattle.ptb_expr.specs.Stops.{Gives, Ends, IfFull}
+pub use Rattle.ptb_expr.specs.Starts.{BeginsFactor, IsBefore, start_room, sign_of, with_before, room_before, IsFirst}
+pub use Rattle.ptb_expr.specs.Stops.{HasResult, Ends, IfFull}
 pub use Rattle.ptb_expr.specs.Store.{map_ok}
 pub use Rattle.ptb_expr.specs.Translation.{AreStepsOf, IsMalformed, IsVariableRead, IsVariable}
 pub use Rattle.ptb_expr.specs.TreeSteps.{plain_step, after_step, run}

@@ -15,22 +15,22 @@ use Rattle.ptb_expr.specs.Reading.{Reading, Whole, Malformed, node_over, missing
 
 -- ---- the rules
 
-pub data Part : Type 0 where
-  Expr : Part
-  Sum : Part
+pub data Production : Type 0 where
+  Expr : Production
+  Sum : Production
   -- the first product of a sum, with its sign
-  First : Part
+  First : Production
   -- what follows x in a sum
-  MoreSum : (x : Tree) → Part
-  Product : Part
+  MoreSum : (x : Tree) → Production
+  Product : Production
   -- what follows x in a product
-  MoreProduct : (x : Tree) → Part
-  Factor : Part
-  Variable : Part
-  Paren : Part
+  MoreProduct : (x : Tree) → Production
+  Factor : Production
+  Variable : Production
+  Paren : Production
 
 -- a node is marked at its end, after any blanks there; reading stops at a malformed part
-pub data Spells (t : List ℕ) : Part → ℕ → Reading Tree → Type 0 where
+pub data Spells (t : List ℕ) : Production → ℕ → Reading Tree → Type 0 where
   -- expr = sum [ comparison sum ]
   sum_alone : {i j : ℕ} {x : Tree} → Spells t Sum i (Whole x j) → comparison t j ≡ None → Spells t Expr i (Whole x j)
   compared : {i j k : ℕ} {x : Tree} {op : Operator} {r : Reading Tree} → Spells t Sum i (Whole x j)
@@ -97,7 +97,8 @@ pub record SpellingLaws : Type 0 where
   pub expression_spelled : (t : List ℕ) (i : ℕ) → Spells t Expr i (expression t i)
   pub variable_spelled : (t : List ℕ) (i : ℕ) → Spells t Variable i (variable_tree t i)
   -- nothing is spelled in two ways
-  pub unique : (t : List ℕ) (part : Part) (i : ℕ) (q r : Reading Tree) → Spells t part i q → Spells t part i r → q ≡ r
+  pub unique : (t : List ℕ) (part : Production) (i : ℕ) (q r : Reading Tree) → Spells t part i q → Spells t part i r
+      → q ≡ r
   -- what is whole takes something, and ends within the text
   pub expression_ahead : (t : List ℕ) (i j : ℕ) (x : Tree) → expression t i ≡ Whole x j → LiesAhead t i j
   pub variable_ahead : (t : List ℕ) (i j : ℕ) (x : Tree) → variable_tree t i ≡ Whole x j → LiesAhead t i j

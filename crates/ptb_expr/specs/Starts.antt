@@ -1,6 +1,6 @@
 -- This file defines what is before a part of the grammar, or alone in its place.
 --     IsBefore t unary inner outer i j     between i and j is what makes `outer` of the part `inner` after it
---     IsFirst before, IsNext before        whether that is before the first product of a sum, or before a later one
+--     IsFirst before, IsLater before        whether that is before the first product of a sum, or before a later one
 --     sign_of before                       what is done with the first
 --     operator_of before                   the operator before a later one
 --     with_before before mark xs           the steps xs of a product with what is before it
@@ -20,11 +20,11 @@ use Rattle.ptb_expr.specs.declared.reader.Start.{Start}
 use Rattle.ptb_expr.specs.declared.reader.Start.TheVariants as starts
 use Rattle.ptb_expr.specs.ReadSteps.{node_of, room_of, unary_steps}
 use Rattle.ptb_expr.specs.Reading.{Reading, Whole, Malformed, node_over}
-use Rattle.ptb_expr.specs.Spells.{Part, Factor, Paren, Spells}
+use Rattle.ptb_expr.specs.Spells.{Production, Factor, Paren, Spells}
 use Rattle.ptb_expr.specs.TreeSteps.{with_operator}
 use Rattle.ptb_expr.specs.Tree.{Tree, Num, Var, Size, Bad}
 
-abbrev pub IsBefore : List ℕ → Unary → Part → Part → ℕ → ℕ → Type 0
+abbrev pub IsBefore : List ℕ → Unary → Production → Production → ℕ → ℕ → Type 0
 IsBefore t unary inner outer i j =
     (r : Reading Tree) → Spells t inner j r → Spells t outer i (node_over (node_of unary) j r)
 
@@ -34,10 +34,10 @@ IsFirst befores.Nothing = Unit {0}
 IsFirst befores.Sign = Unit {0}
 IsFirst _ = ⊥
 
-abbrev pub IsNext : Before → Type 0
-IsNext befores.Plus = Unit {0}
-IsNext befores.Minus = Unit {0}
-IsNext _ = ⊥
+abbrev pub IsLater : Before → Type 0
+IsLater befores.Plus = Unit {0}
+IsLater befores.Minus = Unit {0}
+IsLater _ = ⊥
 
 -- what is done with the first product
 abbrev pub sign_of : Before → Unary

@@ -40,10 +40,10 @@ abbrev pub first_fail : List Step → Option Fault
 first_fail [] = None
 first_fail (x ∷ xs) = option_or (fail_of x) (first_fail xs)
 
-abbrev pub number_of : Step → Option ℤ
-number_of (steps.Number v) = Some v
-number_of _ = None
+abbrev pub step_number : Step → Option ℤ
+step_number (steps.Number v) = Some v
+step_number _ = None
 
 abbrev pub only_number : List Step → Option ℤ
-only_number (x ∷ []) = number_of x
+only_number (x ∷ []) = step_number x
 only_number _ = None

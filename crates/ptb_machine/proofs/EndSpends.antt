@@ -13,7 +13,7 @@ use Rattle.ptb_expr.specs.Store.{value_at, with_value}
 use Rattle.ptb_expr.specs.Value.{in_range}
 use Rattle.ptb_code.specs.State.{Place, Loop, Call, State}
 use Rattle.ptb_command.specs.Actions.{change}
-use Rattle.ptb_command.specs.Act.{fails, is_full, if_room, goto_action, with_call, gosub_action}
+use Rattle.ptb_command.specs.Act.{fails, is_full, if_not_full, goto_action, with_call, gosub_action}
 use Rattle.ptb_command.specs.Act.{return_action, without_loop, with_loop, for_action, loops_from}
 use Rattle.ptb_command.specs.Act.{after_sum, is_past, loop_end, loop_turn, next_action, finish}
 use Rattle.ptb_machine.proofs.Budgets.{Budget, done_budget}
@@ -22,7 +22,7 @@ use Rattle.ptb_machine.proofs.SpentAnswers.{later, become_spends}
 
 module _ (again : ℕ) where
   if_room_spends : (e : ℕ) (f : State → State) → ((S : State) → (f S).lines ≡ S.lines)
-      → Spends (later again) (if_room e f) 0
+      → Spends (later again) (if_not_full e f) 0
   if_room_spends e f same = record { at = λ S. by_room S (is_full S) }
     where
       by_room : (S : State) (b : Bool)

@@ -21,7 +21,7 @@ use Rattle.ptb_code.specs.Commands.{Part, Assign, Say, Width, Show, NewLine, Tak
 use Rattle.ptb_code.specs.State.{State, Place, Loop, Call, first_state, text_of, next_command}
 use Rattle.ptb_command.specs.Actions.{Halt, Faults, Ends, Progress, Goes, Halts, Action}
 use Rattle.ptb_command.specs.Actions.{on_progress, and_then, goes_on, halt, change, show, attempt, or_halt, work_action}
-use Rattle.ptb_command.specs.Act.{newline, fails, is_full, if_room, goto_action, gosub_action}
+use Rattle.ptb_command.specs.Act.{newline, fails, is_full, if_not_full, goto_action, gosub_action}
 use Rattle.ptb_command.specs.Act.{return_action, without_loop, with_loop, with_call, for_action}
 use Rattle.ptb_command.specs.Act.{loops_from, is_past, loop_end, loop_turn, after_sum, next_action}
 use Rattle.ptb_code.specs.Commands.{letter_of}
@@ -154,7 +154,7 @@ parts_ends (Defect kind m ∷ parts) w operands = halt_ends _ (λ _. tt)
 
 -- ---- commands
 
-if_room_ends : (e : ℕ) (f : State → State) → ((S : State) → (f S).choose ≡ S.choose) → EndsLikeRun (if_room e f)
+if_room_ends : (e : ℕ) (f : State → State) → ((S : State) → (f S).choose ≡ S.choose) → EndsLikeRun (if_not_full e f)
 if_room_ends e f keeps = record { at = λ choose S a h. by_room choose S a h (is_full S) }
   where
     by_room : (choose : Option ℤ) (S : State) (a : Answers) → S.choose ≡ choose → (b : Bool)
@@ -179,7 +179,7 @@ return_ends e = record { at = λ choose S a h. by_calls choose S a h S.calls }
     by_calls choose S a h (c ∷ calls) = h
 
 for_ends : (e : ℕ) (loop : Loop) → EndsLikeRun (for_action e loop)
-for_ends e loop = then_ends (change (without_loop loop.letter)) (λ _. if_room e (with_loop loop))
+for_ends e loop = then_ends (change (without_loop loop.letter)) (λ _. if_not_full e (with_loop loop))
     (change_ends _ (λ S. refl)) (λ _. if_room_ends e (with_loop loop) (λ S. refl))
 
 -- a loop that continues or ends leaves them as they were

@@ -13,13 +13,13 @@ use Rattle.ptb_machine.specs.declared.fault.RunFault.{RunFault}
 use Rattle.ptb_machine.specs.declared.run_end.RunEnd.{RunEnd}
 use Rattle.ptb_command.specs.Stops.{ReportsMissed}
 use Rattle.ptb_machine.specs.RunDevices.{RunDevices, held, refusals}
-use Rattle.ptb_machine.specs.Runs.{IsLineOf, IsRun, IsRunToEnd, Runs, run_miss}
+use Rattle.ptb_machine.specs.Runs.{IsLineOf, IsCompleteRun, IsRunToEnd, Runs, run_miss}
 
 module _ {C S L : Type 0} (chooser : choosers.Ghosts C) (screen : screens.Ghosts S) (source : sources.Ghosts L)
     (p : StoredProgram) (rules : Rules) (o n : RunDevices C S L) where
   -- a run that is over
   pub end_over : (end : RunEnd) (ending : Ending) → end.ending ≡ ending
-      → (run : IsRun chooser screen source p rules o n (Ok ending))
+      → (run : IsCompleteRun chooser screen source p rules o n (Ok ending))
       → IsLineOf p rules (held chooser screen source rules o []) (held chooser screen source rules n run.given) end
       → IsRunToEnd chooser screen source p rules o n (Ok end)
   end_over end ending e run line = record {
@@ -36,14 +36,14 @@ module _ {C S L : Type 0} (chooser : choosers.Ghosts C) (screen : screens.Ghosts
 
   -- a run that a fault has ended has no line
   pub end_broken : (r : Result RunEnd RunFault) (fault : RunFault) → IsErrAnd r (λ y. y ≡ fault)
-      → IsRun chooser screen source p rules o n (Err fault) → IsRunToEnd chooser screen source p rules o n r
+      → IsCompleteRun chooser screen source p rules o n (Err fault) → IsRunToEnd chooser screen source p rules o n r
   end_broken r fault k run =
       let q = err_from_is_err_and r k in
       subst (IsRunToEnd chooser screen source p rules o n) (sym (q.1 ∙ ap Err q.2)) (record { run = run; line = tt })
 
   -- a fault without the line
   pub run_broken : (r : Result Ending RunFault) (fault : RunFault) → IsErrAnd r (λ y. y ≡ fault)
-      → IsRunToEnd chooser screen source p rules o n (Err fault) → IsRun chooser screen source p rules o n r
+      → IsRunToEnd chooser screen source p rules o n (Err fault) → IsCompleteRun chooser screen source p rules o n r
   run_broken r fault k end =
       let q = err_from_is_err_and r k in
-      subst (IsRun chooser screen source p rules o n) (sym (q.1 ∙ ap Err q.2)) end.run
+      subst (IsCompleteRun chooser screen source p rules o n) (sym (q.1 ∙ ap Err q.2)) end.run

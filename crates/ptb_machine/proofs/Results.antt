@@ -19,7 +19,7 @@ use Rattle.ptb_command.specs.Traces.{Trace}
 use Rattle.ptb_command.specs.Reports.{IsShown}
 use Rattle.ptb_command.specs.Stops.{UnlessMissed, miss_of}
 use Rattle.ptb_command.proofs.MissedLines.{miss_unmissed}
-use Rattle.ptb_machine.specs.CommandResults.{reported, stopped, IsResultOf}
+use Rattle.ptb_machine.specs.CommandResults.{reported, result_of_stop, IsResultOf}
 use Rattle.ptb_machine.specs.RunDevices.{RunDevices, run_devices, lent}
 use Rattle.ptb_machine.specs.Steps.{step_miss}
 
@@ -32,11 +32,12 @@ result_done o number text done x e =
 
 pub result_stopped : (o : Trace) (number : ℕ) (text : List ℕ) (done : Result (Unit {0}) Stop) (s : Stop)
     (r : Result (Option Ending) RunFault)
-    → ((f : Fault) → s ≡ stops.Fault f → ⊥) → r ≡ stopped s → done ≡ Err s → IsResultOf o o number text done r
+    → ((f : Fault) → s ≡ stops.Fault f → ⊥) → r ≡ result_of_stop s → done ≡ Err s → IsResultOf o o number text done r
 result_stopped o number text done s r other is e =
     subst (λ (y : Result (Unit {0}) Stop). IsResultOf o o number text y r) (sym e) (silent s other is)
   where
-    silent : (s : Stop) → ((f : Fault) → s ≡ stops.Fault f → ⊥) → r ≡ stopped s → IsResultOf o o number text (Err s) r
+    silent : (s : Stop) → ((f : Fault) → s ≡ stops.Fault f → ⊥) → r ≡ result_of_stop s
+        → IsResultOf o o number text (Err s) r
     silent (stops.Fault f) other is = absurd (other f refl)
     silent stops.Ended other is = record { is = is; same = refl }
     silent stops.NoInput other is = record { is = is; same = refl }

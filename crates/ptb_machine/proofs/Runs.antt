@@ -29,10 +29,10 @@ use Rattle.ptb_answers.specs.declared.rules.Rules.{Rules}
 use Rattle.ptb_command.specs.Configuration.{Configuration}
 use Rattle.ptb_code.specs.Locations.{PlacesAre}
 use Rattle.ptb_command.specs.Representation.{Represents}
-use Rattle.ptb_machine.specs.PlayResults.{played_bytes, Plays, refused_answers, IsFinished}
+use Rattle.ptb_machine.specs.PlayResults.{played_bytes, Plays, refused_by_pause, IsFinished}
 use Rattle.ptb_machine.specs.PlayResults.{IsUnanswered, IsUnfinished, LacksInput, RunComes}
 use Rattle.ptb_machine.specs.Runs.{Runs, StopsAt}
-use Rattle.ptb_machine.specs.Steps.{IsBefore, Steps, QuietTurns}
+use Rattle.ptb_machine.specs.Steps.{IsStateBefore, Steps, QuietTurns}
 use Rattle.ptb_machine.specs.TurnResults.{StepsTo, goes, ends, StepComes}
 use Rattle.ptb_command.proofs.Effects.{begins_joined, takes_joined}
 use Rattle.ptb_command.proofs.Exchanges.{shows_then, exchanges_none, exchanges_then, no_lines, has_broken_from}
@@ -169,7 +169,7 @@ refusal_of bound T (pauses.OutOfRange k) = Out bound T
 refusal_of bound T pauses.Memory = Asks bound T
 
 refused_at : (g : Answers → Outcome Last State) (bound : ℤ) (T : State) (z : Pause) (later : Answers)
-    → AsksNext g bound T z → g (refused_answers z later) ≡ refusal_of bound T z
+    → AsksNext g bound T z → g (refused_by_pause z later) ≡ refusal_of bound T z
 refused_at g bound T pauses.Ended later h = h.asks
 refused_at g bound T (pauses.OutOfRange k) later h = h.outside later
 refused_at g bound T pauses.Memory later h = h.asks
@@ -199,7 +199,7 @@ run_waits refused p rules m o d input rest z k w =
       question = subst (λ (s : List ℕ). AsksNext (playing w.left T) w.bound s z) w.comes.leads.shown
           (asks_before told (λ (S : State). S.shown) (λ k S. refl) (λ k S. refl) (w.left T) w.bound T z (w.question T));
       refuses = w.refuses;
-      lines = λ later. lines_are p rules m o d input rest w.left w.comes k (refused_answers z later)
+      lines = λ later. lines_are p rules m o d input rest w.left w.comes k (refused_by_pause z later)
           (ap (λ u. (last_state u).lines) (refused_at (w.left T) w.bound T z later (w.question T))
           ∙ refused_state w.bound T z);
       continues = record {
@@ -263,7 +263,7 @@ module _ (refused : Refusal → Type 0) (p : StoredProgram) (rules : Rules) (m n
   -- so its state is one before the step
   before_step : {input : List (List ℕ)} (rest : List (List ℕ)) (f : MayFollow e rest)
       (b : RunsTo p rules m o input (e.given ++ rest) d (all_turns p rules.limit))
-      → IsBefore p.lines m (record d { given = [] }) e b.leads.state rest
+      → IsStateBefore p.lines m (record d { given = [] }) e b.leads.state rest
   before_step rest f b = record {
     represents = b.leads.represents;
     lines = b.leads.lines;

@@ -13,7 +13,7 @@ use Rattle.ptb_text.specs.declared.device_fault.DeviceFault.{DeviceFault}
 use Rattle.ptb_text.specs.declared.device_fault.DeviceFault.TheVariants as reads
 use Rattle.ptb_devices.specs.declared.line_buffer.InputEnd.{InputEnd}
 use Rattle.ptb_devices.specs.declared.line_buffer.InputEnd.TheVariants.{Open, Ended, Failed, Exceeded}
-use Rattle.ptb_devices.specs.CutLines.{kept_bytes, whole_lines, last_piece, last_line}
+use Rattle.ptb_devices.specs.CutLines.{kept_bytes, whole_lines, last_piece, line_of_piece}
 use Rattle.ptb_devices.specs.CutLineLaws.{whole_lines-append}
 use Rattle.ptb_devices.specs.Inputs.{InputState, InputNow, fresh_input, open_piece, lines_left}
 use Rattle.ptb_devices.specs.Inputs.{lines_to_end, known_lines, most_to_come, most_lines, input_now}
@@ -114,13 +114,13 @@ module _ (wanted : ℕ) (c : List ℕ) (x f : ℕ) (n : InputNow) (given : List 
         split ∙ ap (λ l. l ++ known.bytes) (sym (take-append-drop 16777216 taken))
         ∙ append_assoc front (drop 16777216 taken) known.bytes
 
-    whole : input_lines c ≡ given ++ (waiting ++ (following ++ last_line (last_piece None c)))
+    whole : input_lines c ≡ given ++ (waiting ++ (following ++ line_of_piece (last_piece None c)))
     whole =
         input_lines-cut c
-        ∙ ap (λ l. l ++ last_line (last_piece None c)) (ap (whole_lines None) all_bytes
+        ∙ ap (λ l. l ++ line_of_piece (last_piece None c)) (ap (whole_lines None) all_bytes
         ∙ whole_lines-append None front (drop 16777216 taken ++ known.bytes) ∙ ap (λ l. l ++ following) cut)
-        ∙ append_assoc (given ++ waiting) following (last_line (last_piece None c))
-        ∙ append_assoc given waiting (following ++ last_line (last_piece None c))
+        ∙ append_assoc (given ++ waiting) following (line_of_piece (last_piece None c))
+        ∙ append_assoc given waiting (following ++ line_of_piece (last_piece None c))
 
     -- the line that is cut off is never given
     left_over : NoneLeft (known_lines n) → ⊥
@@ -150,7 +150,7 @@ module _ (wanted : ℕ) (c : List ℕ) (x f : ℕ) (n : InputNow) (given : List 
 
     long : IsAfter c given n
     long = record {
-      rest = waiting ++ (following ++ last_line (last_piece None c));
+      rest = waiting ++ (following ++ line_of_piece (last_piece None c));
       whole = whole;
       none = λ h. absurd (left_over h);
     }

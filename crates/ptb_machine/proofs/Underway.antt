@@ -21,7 +21,7 @@ use Rattle.ptb_machine.specs.declared.fault.RunFault.TheVariants as faults
 use Rattle.ptb_machine.specs.Play.{next_number}
 use Rattle.ptb_machine.specs.RunDevices.{RunDevices, held, refusals}
 use Rattle.ptb_machine.specs.declared.run_end.RunEnd.{RunEnd}
-use Rattle.ptb_machine.specs.Runs.{IsRun, IsRunToEnd, StopsAt}
+use Rattle.ptb_machine.specs.Runs.{IsCompleteRun, IsRunToEnd, StopsAt}
 use Rattle.ptb_machine.specs.Steps.{IsTurn, QuietTurns, Steps, step_miss}
 use Rattle.ptb_machine.proofs.Ends.{end_over}
 use Rattle.ptb_machine.proofs.Runs.{HasRun, run_begins, run_advanced, run_on, run_falls, run_over}
@@ -104,7 +104,7 @@ module _ {C S L : Type 0} (chooser : choosers.Ghosts C) (screen : screens.Ghosts
 
     -- it is over
     pub underway_over : (ending : Ending) → r ≡ Ok (Some ending)
-        → IsRun chooser screen source p rules first last (Ok ending)
+        → IsCompleteRun chooser screen source p rules first last (Ok ending)
     underway_over ending e = record {
       given = u.given ++ turn.given;
       gives = gives;
@@ -115,7 +115,7 @@ module _ {C S L : Type 0} (chooser : choosers.Ghosts C) (screen : screens.Ghosts
 
     -- a fault ends it
     pub underway_broken : (fault : RunFault) → r ≡ Err fault → (fault ≡ faults.Spent → ⊥)
-        → IsRun chooser screen source p rules first last (Err fault)
+        → IsCompleteRun chooser screen source p rules first last (Err fault)
     underway_broken fault e unspent = record {
       given = u.given ++ turn.given;
       gives = gives;

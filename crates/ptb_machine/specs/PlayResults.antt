@@ -4,7 +4,7 @@
 -- isn't there; or to where a device failed, so that a prefix of it was shown.
 --     Plays p rules input o n x left       with what was exchanged, this is left of the play
 --     played_bytes o                       what a play has shown, where it is over or asks
---     refused_answers z later              the answer that is refused as out of range, if one is, and later ones
+--     refused_by_pause z later              the answer that is refused as out of range, if one is, and later ones
 --     PlayContinues .. x left              whatever answers follow, what is left takes back nothing
 --     IsFinished, IsUnanswered, IsUnfinished    the play is over, waits for an answer, or was cut short
 --     LacksInput ..                        without a line the play ends, or asks for an answer
@@ -40,10 +40,10 @@ played_bytes (Asks n shown) = shown
 played_bytes (Out n shown) = shown
 
 -- lack of memory is no refusal of an answer
-abbrev pub refused_answers : Pause → Answers → Answers
-refused_answers pauses.Ended later = []
-refused_answers (pauses.OutOfRange k) later = k ∷ later
-refused_answers pauses.Memory later = []
+abbrev pub refused_by_pause : Pause → Answers → Answers
+refused_by_pause pauses.Ended later = []
+refused_by_pause (pauses.OutOfRange k) later = k ∷ later
+refused_by_pause pauses.Memory later = []
 
 -- from devices that hold o to devices that hold n, where no lines were given before; `refused` is what holds after a
 -- refusal
@@ -74,7 +74,7 @@ module _ (refused : Refusal → Type 0) (p : StoredProgram) (rules : Rules) (inp
     pub refuses : refused (Unanswered z bound)
     -- the source gave the lines for which it asks before, and no others
     pub lines : (later : Answers)
-        → input ≡ n.given ++ unasked_lines p input rules (exchange.answers ++ refused_answers z later)
+        → input ≡ n.given ++ unasked_lines p input rules (exchange.answers ++ refused_by_pause z later)
     pub continues : PlayContinues exchange left
 
   -- without a line the play ends so, or asks with this bound; these bytes were shown, and this is left of it

@@ -35,12 +35,12 @@ pub use Rattle.ptb_machine.specs.Positions.{IsFound, IsLedTo, Stands, standing}
 pub use Rattle.ptb_machine.specs.ProgramCode.{IsNextCode, IsCodeTable, IsProgramCode, IsCommandAt, HasShortForms}
 pub use Rattle.ptb_machine.specs.ProgramCode.{code_from}
 pub use Rattle.ptb_machine.specs.RunDevices.{lent, run_devices}
-pub use Rattle.ptb_machine.specs.Runs.{IsRun, IsRunToEnd, ending_alone}
+pub use Rattle.ptb_machine.specs.Runs.{IsCompleteRun, IsRunToEnd, ending_alone}
 pub use Rattle.ptb_machine.specs.SeededRuns.{IsDrawn, SeededLaws}
 pub use Rattle.ptb_machine.specs.ShortForms.{beginning, place_by, IsSet, IsSetElement, IsIf, IsLastIf, IsGosub}
 pub use Rattle.ptb_machine.specs.ShortForms.{IsReturn, IsEndTurn, IsShort, IsShortForm, LeadsToStatement, with_form}
 pub use Rattle.ptb_machine.specs.ShortForms.{viewed}
-pub use Rattle.ptb_machine.specs.ShortSteps.{DoesEntry, MovesOn, Reaches}
+pub use Rattle.ptb_machine.specs.ShortSteps.{DoesEntry, MovesOn, Arrives}
 pub use Rattle.ptb_machine.specs.Steps.{FitsProgram, IsStep, QuietTurns}
 pub use Rattle.ptb_machine.specs.Streams.{reads_of, writes_of}
 pub use Rattle.ptb_machine.specs.declared.program_code.CommandEntry.{CommandEntry}

@@ -1,7 +1,7 @@
 -- A run is the play of the definition (`Runs`): its ending, the bytes that it shows, the answers that it
 -- takes and the lines that it asks for are those of `play`, whatever lines follow those that the
 -- source gave. Where a device refused something, a prefix of that play was done.
---     IsRun .. p rules o n r          all that a run promises: with devices o, then n, it has the result r
+--     IsCompleteRun .. p rules o n r          all that a run promises: with devices o, then n, it has the result r
 --     Runs refused p rules o n r      the same, by what the devices hold
 --     run_miss r                      whether the result reports that a line was asked for without success
 --     IsRunToEnd .. p rules o n r     a run whose result has the line of its end
@@ -35,8 +35,8 @@ abbrev pub run_miss : Result Ending RunFault → Miss
 run_miss (Ok ending) = step_miss (Ok (Some ending))
 run_miss (Err fault) = step_miss (Err fault)
 
-pub record IsRun {C S L : Type 0} (chooser : choosers.Ghosts C) (screen : screens.Ghosts S) (source : sources.Ghosts L)
-    (p : StoredProgram) (rules : Rules) (o n : RunDevices C S L) (r : Result Ending RunFault) : Type 0 where
+pub record IsCompleteRun {C S L : Type 0} (chooser : choosers.Ghosts C) (screen : screens.Ghosts S)
+    (source : sources.Ghosts L) (p : StoredProgram) (rules : Rules) (o n : RunDevices C S L) (r : Result Ending RunFault) : Type 0 where
   -- the lines that the source gave
   pub given : List (List ℕ)
   pub gives : source.gives o.source given n.source
@@ -68,6 +68,6 @@ pub record IsLineOf (p : StoredProgram) (rules : Rules) (o n : Devices) (end : R
 pub record IsRunToEnd {C S L : Type 0} (chooser : choosers.Ghosts C) (screen : screens.Ghosts S)
     (source : sources.Ghosts L) (p : StoredProgram) (rules : Rules) (o n : RunDevices C S L)
     (r : Result RunEnd RunFault) : Type 0 where
-  pub run : IsRun chooser screen source p rules o n (ending_alone r)
+  pub run : IsCompleteRun chooser screen source p rules o n (ending_alone r)
   pub line : IfOk r
       (IsLineOf p rules (held chooser screen source rules o []) (held chooser screen source rules n run.given))

@@ -1,8 +1,8 @@
 // This file does complete runs, by `run` and `run_to_end`.
 
 ghost use Rattle.std.specs.Prelude.{◌≡◌, ℕ, ℤ, List, Option, false, IfOk};
-ghost use Rattle.ptb_machine.specs.Prelude.{Represents, first_state, run_devices, IsRun, IsRunToEnd, FitsProgram};
-ghost use Rattle.ptb_machine.specs.Prelude.{SameBorrows, lent};
+ghost use Rattle.ptb_machine.specs.Prelude.{Represents, first_state, run_devices, IsCompleteRun, IsRunToEnd};
+ghost use Rattle.ptb_machine.specs.Prelude.{FitsProgram, SameBorrows, lent};
 
 use crate::fault::RunFault;
 use crate::machine::Machine;
@@ -30,7 +30,7 @@ pub fn run<C: Chooser, S: Screen, L: LineSource>(
     screen: &mut S,
     source: &mut L,
 ) -> Result<Ending, RunFault>
-    ensures { IsRun C.Chooser S.Screen L.LineSource program.now rules
+    ensures { IsCompleteRun C.Chooser S.Screen L.LineSource program.now rules
         (run_devices chooser.old screen.old source.old)
         (run_devices chooser.new screen.new source.new) result }
 {

@@ -3,7 +3,7 @@
 ghost use Rattle.std.specs.Prelude.{◌≡◌, ℕ, List, Some, slice_get};
 ghost use Rattle.ptb_expr.specs.Store.{Cells};
 ghost use Rattle.ptb_command.specs.CommandIo.{io_trace, SameDevices};
-ghost use Rattle.ptb_machine.specs.CommandResults.{IsResultOf, stopped};
+ghost use Rattle.ptb_machine.specs.CommandResults.{IsResultOf, result_of_stop};
 
 use crate::fault::RunFault;
 use crate::reports::{ending_of, report};
@@ -15,7 +15,7 @@ use ptb_text::Program;
 
 // The result of a step whose command stopped so, once its fault is reported if it has one.
 fn stopped(stop: Stop) -> Result<Option<Ending>, RunFault>
-    ensures { result ≡ stopped stop }
+    ensures { result ≡ result_of_stop stop }
 {
     match stop {
         Stop::Fault(fault) => Ok(Some(ending_of(fault.kind))),

@@ -18,7 +18,7 @@ use Rattle.ptb_options.specs.declared.request.Request.{Request}
 use Rattle.ptb_options.specs.declared.usage.UsageFault.{UsageFault}
 use Rattle.ptb_options.specs.declared.usage.UsageFault.TheVariants.{BadList, Memory}
 use Rattle.ptb_options.specs.Options.{Asks, AsksMode, HasBound, HasMemorySize, IsFirstMisspelled}
-use Rattle.ptb_options.specs.Options.{Options, RefusesOptions, WantsMemory, clash, clashes, first_fault}
+use Rattle.ptb_options.specs.Options.{Options, RefusesOptions, LacksMemory, clash, clashes, first_fault}
 use Rattle.ptb_options.specs.Options.{IsRulesOf, default_memory, default_steps}
 use Rattle.ptb_options.proofs.ListsKept.{first_misspelled}
 
@@ -92,7 +92,7 @@ module _ (o l : Options) (same : l ≡ o) where
 
     -- memory is wanted for the items of a list
     pub decided_list : HasMemorySize o → HasBound o → (result : Result Request UsageFault) (fault : UsageFault)
-        → IsErrAnd result (λ y. y ≡ fault) → WantsMemory l fault → IsDecided result
+        → IsErrAnd result (λ y. y ≡ fault) → LacksMemory l fault → IsDecided result
     decided_list size positive result fault is h =
         let e = err_from_is_err_and result is in
         let wanted : RefusesOptions l Memory = (

@@ -11,7 +11,7 @@ use Rattle.std.specs.Borrow.{Bor}
 use Rattle.ptb_answers.specs.declared.form.Marked.{Marked}
 use Rattle.ptb_answers.specs.AnswerText.{item_text, unmarked, without_bound}
 use Rattle.ptb_options.specs.AnswerLists.{IsItem, SpellsItem, SpellsList}
-use Rattle.ptb_options.specs.ListMistakes.{IsFault, IsItemOf, IsListOf, IsListMistake, pieces}
+use Rattle.ptb_options.specs.ListMistakes.{IsFault, IsItemOf, IsListOf, IsListMistake, list_pieces}
 use Rattle.ptb_options.specs.declared.mistakes.Bounds.{Bounds}
 use Rattle.ptb_options.specs.declared.mistakes.Bounds.TheVariants.{Allowed, Refused}
 use Rattle.ptb_options.specs.declared.mistakes.Mistake.{Mistake}
@@ -65,16 +65,16 @@ gathered_answers (w ∷ ws) each =
     (item.0 ∷ rest.0, gathered_more w (without_bound item.0) ws (unmarked rest.0) item.1 rest.1)
 
 -- a text whose pieces are items spells a list
-pub list_of_items : (bounds : Bounds) (s : List ℕ) → All (IsItemOf bounds) (pieces s) → IsListOf bounds s
-list_of_items Allowed s each = let found = gathered (pieces s) each in
+pub list_of_items : (bounds : Bounds) (s : List ℕ) → All (IsItemOf bounds) (list_pieces s) → IsListOf bounds s
+list_of_items Allowed s each = let found = gathered (list_pieces s) each in
     (found.0, list_of_words s found.0 found.1.each found.1.words)
 list_of_items Refused s each =
-    let found = gathered_answers (pieces s) each in
+    let found = gathered_answers (list_pieces s) each in
     (found.0, list_of_words s (unmarked found.0) found.1.each found.1.words)
 
 -- and one of which a piece is none doesn't
-pub no_list : (bounds : Bounds) (s : List ℕ) (i : ℕ) (w : List ℕ) → s ≢ codes "none" → i < length (pieces s)
-    → w ≡ get_or (pieces s) i w → (IsItemOf bounds w → ⊥) → IsListOf bounds s → ⊥
+pub no_list : (bounds : Bounds) (s : List ℕ) (i : ℕ) (w : List ℕ) → s ≢ codes "none" → i < length (list_pieces s)
+    → w ≡ get_or (list_pieces s) i w → (IsItemOf bounds w → ⊥) → IsListOf bounds s → ⊥
 no_list Allowed s i w some within at refused list = refused (word_of_list s list.0 i w some list.1 within at)
 no_list Refused s i w some within at refused list =
     refused (word_of_items without_bound s list.0 i w some list.1 within at)
@@ -107,15 +107,15 @@ items_more bounds ys w each item =
 pub mistake_at : (bounds : Bounds) (s : List ℕ) (ys : List (Bor (List ℕ))) (w : Bor (List ℕ)) (n : ℕ)
     (fault : ItemFault)
     → s ≢ codes "none"
-    → map (λ v. v.now) ys ≡ take (length ys) (pieces s) → length ys < length (pieces s)
-    → w.now ≡ get_or (pieces s) (length ys) w.now
+    → map (λ v. v.now) ys ≡ take (length ys) (list_pieces s) → length ys < length (list_pieces s)
+    → w.now ≡ get_or (list_pieces s) (length ys) w.now
     → All (IsItemOf bounds) (map (λ v. v.now) ys) → n ≡ length ys → IsFault bounds w.now fault
     → IsListMistake bounds s (record { item = n + 1; text = w; fault = fault })
 mistake_at bounds s ys w n fault some so_far within at each counted faulty = record {
   not_list = no_list bounds s (length ys) w.now some within at faulty.refused;
   before = map (λ v. v.now) ys;
-  after = drop (length ys + 1) (pieces s);
-  place = place_of (pieces s) (map (λ v. v.now) ys) (length ys) w.now so_far within at;
+  after = drop (length ys + 1) (list_pieces s);
+  place = place_of (list_pieces s) (map (λ v. v.now) ys) (length ys) w.now so_far within at;
   items = each;
   counted = ap (λ (k : ℕ). k + 1) (counted ∙ sym (length-map ys (λ (v : Bor (List ℕ)). v.now)));
   fault = faulty;

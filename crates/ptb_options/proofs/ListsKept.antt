@@ -22,7 +22,7 @@ use Rattle.ptb_options.specs.declared.usage.UsageFault.{UsageFault}
 use Rattle.ptb_options.specs.declared.usage.UsageFault.TheVariants.{BadList, Memory}
 use Rattle.ptb_options.specs.Options.{HasMistake, IsFirstMisspelled, IsMisspelledIn, IsSpelled}
 use Rattle.ptb_options.specs.Options.{Options, RunsIt, RefusesAnswers, RefusesIfGiven}
-use Rattle.ptb_options.specs.Options.{SpellsIfGiven, WantsMemory, bounds_in, form_of, list_text}
+use Rattle.ptb_options.specs.Options.{SpellsIfGiven, LacksMemory, bounds_for, form_of, list_text}
 
 -- a list with a mistake is none
 mistaken : (bounds : Bounds) (text : Option (List ℕ)) (m : Mistake) → HasMistake bounds text m
@@ -31,7 +31,7 @@ mistaken bounds None m h = h
 mistaken bounds (Some s) m h = h.not_list
 
 pub first_misspelled : (o : Options) (m : MisspelledList) → IsFirstMisspelled o m → IsMisspelledIn o m.option
-first_misspelled o m h = mistaken (bounds_in m.option) (list_text o m.option) m.mistake h.1
+first_misspelled o m h = mistaken (bounds_for m.option) (list_text o m.option) m.mistake h.1
 
 -- o are the options, and v is how the code has them
 module _ (o v : Options) (same : v ≡ o) (under : ForSome v.under (IsListOf Allowed)) (m : Mistake) where
@@ -76,13 +76,13 @@ module _ (o v : Options) (same : v ≡ o) (all_spelled : (x : ListOption) → Is
   spelled : (x : ListOption) → IsSpelled v x
   spelled x = subst (λ (z : Options). IsSpelled z x) (sym same) (all_spelled x)
 
-  refused : WantsMemory v fault → IfErr result (WantsMemory o)
+  refused : LacksMemory v fault → IfErr result (LacksMemory o)
   refused h =
       let e = err_from_is_err_and result is in
-      subst (λ (r : Result Mode UsageFault). IfErr r (WantsMemory o)) (sym (e.1 ∙ ap Err e.2))
-      (subst (λ (z : Options). WantsMemory z fault) same h)
+      subst (λ (r : Result Mode UsageFault). IfErr r (LacksMemory o)) (sym (e.1 ∙ ap Err e.2))
+      (subst (λ (z : Options). LacksMemory z fault) same h)
 
-  wants_under : (f : UsageFault) → v.all ≡ true → v.shares ≡ None → RefusesIfGiven v.under f → WantsMemory v f
+  wants_under : (f : UsageFault) → v.all ≡ true → v.shares ≡ None → RefusesIfGiven v.under f → LacksMemory v f
   wants_under BadList all unsplit h = spelled_list v.under (spelled Under) h
   wants_under Memory all unsplit h =
       let after = list_if_given v.after (spelled After) in (
@@ -95,7 +95,7 @@ module _ (o v : Options) (same : v ≡ o) (all_spelled : (x : ListOption) → Is
       )
   wants_under f all unsplit h = absurd h
 
-  wants_after : (f : UsageFault) → v.all ≡ true → v.shares ≡ None → RefusesIfGiven v.after f → WantsMemory v f
+  wants_after : (f : UsageFault) → v.all ≡ true → v.shares ≡ None → RefusesIfGiven v.after f → LacksMemory v f
   wants_after BadList all unsplit h = spelled_list v.after (spelled After) h
   wants_after Memory all unsplit h =
       let under = list_if_given v.under (spelled Under) in (
@@ -108,16 +108,16 @@ module _ (o v : Options) (same : v ≡ o) (all_spelled : (x : ListOption) → Is
       )
   wants_after f all unsplit h = absurd h
 
-  wants_answers : (f : UsageFault) → v.all ≡ false → v.seed ≡ None → RefusesAnswers v.answers f → WantsMemory v f
+  wants_answers : (f : UsageFault) → v.all ≡ false → v.seed ≡ None → RefusesAnswers v.answers f → LacksMemory v f
   wants_answers BadList one unseeded h = spelled_answers v.answers (spelled Answers) h
   wants_answers Memory one unseeded h = (refl, (modes.Plain h.0, (runs, one, unseeded, h.1), h.2))
   wants_answers f one unseeded h = absurd h
 
-  pub under_refused : v.all ≡ true → v.shares ≡ None → RefusesIfGiven v.under fault → IfErr result (WantsMemory o)
+  pub under_refused : v.all ≡ true → v.shares ≡ None → RefusesIfGiven v.under fault → IfErr result (LacksMemory o)
   under_refused all unsplit h = refused (wants_under fault all unsplit h)
 
-  pub after_refused : v.all ≡ true → v.shares ≡ None → RefusesIfGiven v.after fault → IfErr result (WantsMemory o)
+  pub after_refused : v.all ≡ true → v.shares ≡ None → RefusesIfGiven v.after fault → IfErr result (LacksMemory o)
   after_refused all unsplit h = refused (wants_after fault all unsplit h)
 
-  pub answers_refused : v.all ≡ false → v.seed ≡ None → RefusesAnswers v.answers fault → IfErr result (WantsMemory o)
+  pub answers_refused : v.all ≡ false → v.seed ≡ None → RefusesAnswers v.answers fault → IfErr result (LacksMemory o)
   answers_refused one unseeded h = refused (wants_answers fault one unseeded h)

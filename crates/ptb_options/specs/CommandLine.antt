@@ -23,8 +23,8 @@ abbrev pub flag : List ℕ → Rule
 flag name = record (new_rule name) { long = Some name; action = Some SetTrue }
 
 -- a word that is no option
-abbrev pub operand : List ℕ → Rule
-operand name = record (new_rule name) { value_names = 1 }
+abbrev pub positional : List ℕ → Rule
+positional name = record (new_rule name) { value_names = 1 }
 
 abbrev pub rules : List Rule
 rules =
@@ -43,7 +43,7 @@ rules =
     ∷ flag (codes "chances")
     ∷ flag (codes "list")
     ∷ flag (codes "check")
-    ∷ operand (codes "program")
+    ∷ positional (codes "program")
     ∷ []
 
 -- the rule of an argument as the program lists it
@@ -51,7 +51,7 @@ abbrev pub rule_by : List ℕ → ArgKind → Rule
 rule_by name (kinds.Number parser) = number_option name parser
 rule_by name kinds.List = text_option name
 rule_by name kinds.Flag = flag name
-rule_by name kinds.Operand = operand name
+rule_by name kinds.Operand = positional name
 
 abbrev pub rule_of_listed : ListedArg → Rule
 rule_of_listed a = rule_by a.name.now a.kind

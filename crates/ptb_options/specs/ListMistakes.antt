@@ -1,5 +1,5 @@
 -- This file defines what is wrong with a text that should spell a list of answers.
---     pieces s                  the texts between the commas of s
+--     list_pieces s                  the texts between the commas of s
 --     IsItemOf bounds w         the text w spells an item of a list with bounds, or without
 --     IsListOf bounds s         the text s spells such a list
 --     IsFault bounds w f        the text w spells no such item, and why
@@ -15,8 +15,8 @@ use Rattle.ptb_options.specs.declared.mistakes.ItemFault.{ItemFault}
 use Rattle.ptb_options.specs.declared.mistakes.ItemFault.TheVariants.{HasBound, NotANumber}
 use Rattle.ptb_options.specs.declared.mistakes.Mistake.{Mistake}
 
-abbrev pub pieces : List ℕ → List (List ℕ)
-pieces s = slice_split (λ b. b == 44) s
+abbrev pub list_pieces : List ℕ → List (List ℕ)
+list_pieces s = slice_split (λ b. b == 44) s
 
 abbrev pub IsItemOf : Bounds → List ℕ → Type 0
 IsItemOf Allowed w = (m : Marked) × SpellsItem w m
@@ -40,7 +40,7 @@ pub record IsListMistake (bounds : Bounds) (s : List ℕ) (m : Mistake) : Type 0
   pub not_list : IsListOf bounds s → ⊥
   pub before : List (List ℕ)
   pub after : List (List ℕ)
-  pub place : pieces s ≡ before ++ m.text.now ∷ after
+  pub place : list_pieces s ≡ before ++ m.text.now ∷ after
   pub items : All (IsItemOf bounds) before
   pub counted : m.item ≡ length before + 1
   pub fault : IsFault bounds m.text.now m.fault

@@ -242,15 +242,15 @@ list_text o After = o.after
 list_text o Answers = o.answers
 
 -- a run is played by numbers alone, and named with their bounds or without
-abbrev pub bounds_in : ListOption → Bounds
-bounds_in Answers = Refused
-bounds_in _ = Allowed
+abbrev pub bounds_for : ListOption → Bounds
+bounds_for Answers = Refused
+bounds_for _ = Allowed
 
 abbrev pub IsSpelled : Options → ListOption → Type 0
-IsSpelled o x = ForSome (list_text o x) (IsListOf (bounds_in x))
+IsSpelled o x = ForSome (list_text o x) (IsListOf (bounds_for x))
 
 abbrev pub IsMisspelledIn : Options → ListOption → Type 0
-IsMisspelledIn o x = IsSomeAnd (list_text o x) (λ s. IsListOf (bounds_in x) s → ⊥)
+IsMisspelledIn o x = IsSomeAnd (list_text o x) (λ s. IsListOf (bounds_for x) s → ⊥)
 
 -- what is wrong with a list that may be left out
 abbrev pub HasMistake : Bounds → Option (List ℕ) → Mistake → Type 0
@@ -263,7 +263,7 @@ EarlierSpelled o After = IsSpelled o Under
 EarlierSpelled o Answers = IsSpelled o Under × IsSpelled o After
 
 abbrev pub IsFirstMisspelled : Options → MisspelledList → Type 0
-IsFirstMisspelled o m = EarlierSpelled o m.option × HasMistake (bounds_in m.option) (list_text o m.option) m.mistake
+IsFirstMisspelled o m = EarlierSpelled o m.option × HasMistake (bounds_for m.option) (list_text o m.option) m.mistake
 
 -- a list that may be left out is misspelled, or it has items and memory is wanted for them
 abbrev pub RefusesIfGiven : Option (List ℕ) → UsageFault → Type 0
@@ -287,8 +287,8 @@ HasItems modes.List = ⊥
 HasItems modes.Check = ⊥
 HasItems modes.Chances = ⊥
 
-abbrev pub WantsMemory : Options → UsageFault → Type 0
-WantsMemory o fault = (fault ≡ Memory) × ((mode : Mode) × AsksMode o mode × HasItems mode)
+abbrev pub LacksMemory : Options → UsageFault → Type 0
+LacksMemory o fault = (fault ≡ Memory) × ((mode : Mode) × AsksMode o mode × HasItems mode)
 
 -- lists are looked at where nothing else is wrong, and kept where all are spelled
 abbrev pub RefusesOptions : Options → UsageFault → Type 0

@@ -4,7 +4,7 @@ ghost use Rattle.std.specs.Prelude.{◌≡◌, None, IfErr, IfOk, IfSome, unwrap
 ghost use Rattle.std.specs.Option.{option_copied};
 ghost use Rattle.ptb_options.specs.Prelude.{SpellsAnswers, Asks, AsksMode, HasBound, HasMemorySize, IsFirstMisspelled};
 ghost use Rattle.ptb_options.specs.Prelude.{IsSpelled, RefusesOptions, RefusesAnswers, RefusesIfGiven, SpellsIfGiven};
-ghost use Rattle.ptb_options.specs.Prelude.{WantsMemory, clash, entries_of, options_of, ListOption};
+ghost use Rattle.ptb_options.specs.Prelude.{LacksMemory, clash, entries_of, options_of, ListOption};
 
 use crate::answers::{Answers, MarkedAnswers, parse_answers, parse_list};
 use crate::given_options::GivenOptions;
@@ -64,7 +64,7 @@ impl<'a> GivenOptions<'a> {
         requires clash { clash self.now ≡ None }
         requires spelled { (x : ListOption) → IsSpelled self.now x }
         ensures ok { IfOk result (AsksMode self.now) }
-        ensures fault { IfErr result (WantsMemory self.now) }
+        ensures fault { IfErr result (LacksMemory self.now) }
     {
         if self.list {
             return Ok(Mode::List);

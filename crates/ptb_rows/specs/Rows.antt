@@ -23,7 +23,7 @@ use Rattle.ptb_options.specs.Options.{default_memory, default_steps, Options, no
 use Rattle.ptb_serve.specs.declared.note.Note.TheVariants as notes
 use Rattle.ptb_options.specs.declared.request.Mode.TheVariants as modes
 use Rattle.ptb_options.specs.declared.request.Request.{Request}
-use Rattle.ptb_serve.specs.Replies.{Reply, refusal, success, reply_to}
+use Rattle.ptb_serve.specs.Replies.{Reply, refusal, reply_with, reply_to}
 use lib.Dec.{lit≤}
 use Rattle.ptb_text.specs.Statements.{IsMemorySize, program}
 use Rattle.ptb_answers.specs.Outcome.{is_whole}
@@ -91,23 +91,25 @@ splitting answers form = record {
 
 -- lists that split the runs
 pub record SplitRows : Type 0 where
-  pub one_answer : reply_to (splitting 1 Two) (codes "10 A=RND(2);IF A=2 B=RND(3);PRINT B") [] ≡ success
+  pub one_answer : reply_to (splitting 1 Two) (codes "10 A=RND(2);IF A=2 B=RND(3);PRINT B") [] ≡ reply_with
       (codes "1/2\n2/2\n")
-  pub two_answers : reply_to (splitting 2 Two) (codes "10 A=RND(2);IF A=2 B=RND(3);PRINT B") [] ≡ success
+  pub two_answers : reply_to (splitting 2 Two) (codes "10 A=RND(2);IF A=2 B=RND(3);PRINT B") [] ≡ reply_with
       (codes "1/2\n2/2,1/3\n2/2,2/3\n2/2,3/3\n")
-  pub form_1 : reply_to (splitting 9 One) (codes "10 A=RND(2);IF A=2 B=RND(3);PRINT B") [] ≡ success
+  pub form_1 : reply_to (splitting 9 One) (codes "10 A=RND(2);IF A=2 B=RND(3);PRINT B") [] ≡ reply_with
       (codes "1\n2,1\n2,2\n2,3\n")
-  pub no_program : reply_to (splitting 1 Two) [] [] ≡ success (codes "none\n")
+  pub no_program : reply_to (splitting 1 Two) [] [] ≡ reply_with (codes "none\n")
   -- a list may end within a command, and a run at its limit
-  pub within_command : reply_to (splitting 1 Two) (codes "10 P.RND(2)*RND(3)") [] ≡ success (codes "1/2\n2/2\n")
-  pub limit : reply_to (limited 1 (splitting 2 Two)) (codes "10 A=RND(2);B=RND(2)") [] ≡ success (codes "1/2\n2/2\n")
-  pub fault : reply_to (splitting 2 One) (codes "10 A=RND(2)-1;B=RND(A);C=RND(2)") [] ≡ success (codes "1\n2,1\n")
+  pub within_command : reply_to (splitting 1 Two) (codes "10 P.RND(2)*RND(3)") [] ≡ reply_with (codes "1/2\n2/2\n")
+  pub limit : reply_to (limited 1 (splitting 2 Two)) (codes "10 A=RND(2);B=RND(2)") [] ≡ reply_with (codes "1/2\n2/2\n")
+  pub fault : reply_to (splitting 2 One) (codes "10 A=RND(2)-1;B=RND(A);C=RND(2)") [] ≡ reply_with (codes "1\n2,1\n")
   -- the input is that of each run
-  pub rolled_input : reply_to (splitting 1 Two) (codes "10 INPUT A;PRINT RND(9)") (one_line (codes "RND(2)")) ≡ success
+  pub rolled_input : reply_to (splitting 1 Two) (codes "10 INPUT A;PRINT RND(9)")
+      (one_line (codes "RND(2)")) ≡ reply_with
       (codes "1/2\n2/2\n")
-  pub instead_of_lines : reply_to (choosing (pos 3) (le_z_yes tt) (splitting 1 Two)) (codes "10 INPUT A,B") [] ≡ success
+  pub instead_of_lines : reply_to (choosing (pos 3) (le_z_yes tt) (splitting 1 Two))
+      (codes "10 INPUT A,B") [] ≡ reply_with
       (codes "1/3\n2/3\n3/3\n")
-  pub no_input : reply_to (splitting 1 Two) (codes "10 INPUT A;B=RND(2)") [] ≡ success (codes "none\n")
+  pub no_input : reply_to (splitting 1 Two) (codes "10 INPUT A;B=RND(2)") [] ≡ reply_with (codes "none\n")
   pub refused : reply_to (splitting 1 Two) (codes "0 P.") [] ≡ refusal (notes.Load 1 NoNumber)
 
 -- so many runs that a seed draws
@@ -150,19 +152,19 @@ abbrev pub mistaken : List ℕ → Reply
 mistaken bytes = record { bytes = bytes; status = 1; note = None }
 
 pub record CheckRows : Type 0 where
-  pub no_mistake : reply_to check (codes "10 PRINT \"HI\"\n") [] ≡ success []
+  pub no_mistake : reply_to check (codes "10 PRINT \"HI\"\n") [] ≡ reply_with []
   pub in_rising_order : reply_to check
       (codes "30 LET A=(3+4, X=4\n20 GOTO 412\n10 IF 0 PTINT \"X\"\n") []
       ≡ mistaken (codes "WHAT?\n10 IF 0 P?TINT \"X\"\nHOW?\n20 GOTO 412?\nWHAT?\n30 LET A=(3+4?, X=4\n")
   pub several_in_one : reply_to check
       (codes "10 GOSUB 99;A=32768;PRINT )\n") []
       ≡ mistaken (codes "HOW?\n10 GOSUB 99?;A=32768;PRINT )\nHOW?\n10 GOSUB 99;A=32768?;PRINT )\n")
-  pub only_in_the_text : reply_to check (codes "10 GOTO A\n20 RETURN\n") [] ≡ success []
+  pub only_in_the_text : reply_to check (codes "10 GOTO A\n20 RETURN\n") [] ≡ reply_with []
   pub fault_of_a_run_before_it : reply_to check
       (codes "10 PRINT (1/0\n") [] ≡ mistaken (codes "WHAT?\n10 PRINT (1/0?\n")
-  pub no_program : reply_to check [] [] ≡ success []
+  pub no_program : reply_to check [] [] ≡ reply_with []
   -- whatever the input is
-  pub input_ignored : reply_to check (codes "10 INPUT A") (one_line (codes ")")) ≡ success []
+  pub input_ignored : reply_to check (codes "10 INPUT A") (one_line (codes ")")) ≡ reply_with []
   pub refused : reply_to check (codes "0 P.") [] ≡ refusal (notes.Load 1 NoNumber)
 
 -- the chances of all results
@@ -170,23 +172,23 @@ abbrev pub chances : Request
 chances = record { rules = default_rules; memory = default_memory; mode = modes.Chances; in_range = default_size }
 
 pub record ChanceRows : Type 0 where
-  pub no_program : reply_to chances [] [] ≡ success (codes "CHANCE 1/1 1 END 0\n\n")
-  pub rolled_again : reply_to chances (codes "10 A=RND(2);IF A=2 A=RND(3)\n20 P.#1,A") [] ≡ success
+  pub no_program : reply_to chances [] [] ≡ reply_with (codes "CHANCE 1/1 1 END 0\n\n")
+  pub rolled_again : reply_to chances (codes "10 A=RND(2);IF A=2 A=RND(3)\n20 P.#1,A") [] ≡ reply_with
       (codes "CHANCE 2/3 2 END 1\n1\nCHANCE 1/6 1 END 1\n2\nCHANCE 1/6 1 END 1\n3\n")
-  pub limit : reply_to (limited 5 chances) (codes "10 A=RND(2)\n20 IF A=1 GOTO 10") [] ≡ success
+  pub limit : reply_to (limited 5 chances) (codes "10 A=RND(2)\n20 IF A=1 GOTO 10") [] ≡ reply_with
       (codes "CHANCE 3/4 2 END 0\n\nCHANCE 1/4 1 LIMIT 0\n\n")
   -- the signs of the sums are bytes of the lines, and a minus sign comes before the digits
   pub four_tosses :
       reply_to chances (codes "10 F.I=1TO4;A=A+RND(2)*2-3;N.I;P.#1,A") []
-      ≡ success (codes "CHANCE 1/4 4 END 2\n-2\nCHANCE 1/16 1 END 2\n-4\nCHANCE 3/8 6 END 1\n0\nCHANCE 1/4 4 END 1\n2\nCHANCE 1/16 1 END 1\n4\n")
+      ≡ reply_with (codes "CHANCE 1/4 4 END 2\n-2\nCHANCE 1/16 1 END 2\n-4\nCHANCE 3/8 6 END 1\n0\nCHANCE 1/4 4 END 1\n2\nCHANCE 1/16 1 END 1\n4\n")
   pub each_ending :
       reply_to chances (codes "10 A=RND(3);P.#1,A;IF A=1 STOP\n20 IF A=2 P.1/0") []
-      ≡ success (codes "CHANCE 1/3 1 END 1\n3\nCHANCE 1/3 1 STOP 1\n1\nCHANCE 1/3 1 HOW 16\n20 IF A=2 P.1/0?\n")
-  pub rolled_input : reply_to chances (codes "10 INPUT A;P.#1,A") (one_line (codes "RND(2)")) ≡ success
+      ≡ reply_with (codes "CHANCE 1/3 1 END 1\n3\nCHANCE 1/3 1 STOP 1\n1\nCHANCE 1/3 1 HOW 16\n20 IF A=2 P.1/0?\n")
+  pub rolled_input : reply_to chances (codes "10 INPUT A;P.#1,A") (one_line (codes "RND(2)")) ≡ reply_with
       (codes "CHANCE 1/2 1 END 1\n1\nCHANCE 1/2 1 END 1\n2\n")
-  pub instead_of_lines : reply_to (choosing (pos 2) (le_z_yes tt) chances) (codes "10 INPUT A") [] ≡ success
+  pub instead_of_lines : reply_to (choosing (pos 2) (le_z_yes tt) chances) (codes "10 INPUT A") [] ≡ reply_with
       (codes "CHANCE 1/2 1 END 3\nA:1\nCHANCE 1/2 1 END 3\nA:2\n")
-  pub no_input : reply_to chances (codes "10 INPUT A;P.RND(2)") [] ≡ success (codes "CHANCE 1/1 1 NOINPUT 2\nA:\n")
+  pub no_input : reply_to chances (codes "10 INPUT A;P.RND(2)") [] ≡ reply_with (codes "CHANCE 1/1 1 NOINPUT 2\nA:\n")
   pub refused : reply_to chances (codes "0 P.") [] ≡ refusal (notes.Load 1 NoNumber)
 
 -- the report of a run whose answers are 69 times 1 and then these
@@ -199,7 +201,7 @@ abbrev pub run_end : List ℕ → ℕ → Reply
 run_end bytes status = record { bytes = bytes; status = status; note = None }
 
 pub record RunRows : Type 0 where
-  pub greeting : reply_to (run []) (codes "10 PRINT \"HI\"") [] ≡ success (one_line (codes "HI"))
+  pub greeting : reply_to (run []) (codes "10 PRINT \"HI\"") [] ≡ reply_with (one_line (codes "HI"))
   pub one_answer : reply_to (run (pos 2 ∷ [])) (codes "10 P.RND(2)") [] ≡ run_end (one_line (codes "     2")) 0
   pub answers_left : reply_to (run (pos 1 ∷ pos 9 ∷ [])) (codes "10 P.RND(2)") [] ≡ run_end
       (one_line (codes "     1")) 0
@@ -235,12 +237,12 @@ pub record SeedRows : Type 0 where
 
 -- answers instead of missing lines
 pub record ChoiceRows : Type 0 where
-  pub each_answer : reply_to (choosing (pos 2) (le_z_yes tt) all) (codes "10 INPUT A;PRINT A") [] ≡ success
+  pub each_answer : reply_to (choosing (pos 2) (le_z_yes tt) all) (codes "10 INPUT A;PRINT A") [] ≡ reply_with
       (codes "RUN 1 END 2 11\nA:1\n     1\n\nRUN 2 END 2 11\nA:2\n     2\n\n")
   pub after_faulty_line : reply_to (choosing (pos 2) (le_z_yes tt) all) (codes "10 INPUT A;PRINT A")
       (one_line (codes ")"))
-      ≡ success (codes "RUN 1 END 2 21\nA:)\nWHAT?\nA:1\n     1\n\nRUN 2 END 2 21\nA:)\nWHAT?\nA:2\n     2\n\n")
-  pub index_and_value : reply_to (choosing (pos 2) (le_z_yes tt) all) (codes "10 INPUT @(RND(2)-1)") [] ≡ success (
+      ≡ reply_with (codes "RUN 1 END 2 21\nA:)\nWHAT?\nA:1\n     1\n\nRUN 2 END 2 21\nA:)\nWHAT?\nA:2\n     2\n\n")
+  pub index_and_value : reply_to (choosing (pos 2) (le_z_yes tt) all) (codes "10 INPUT @(RND(2)-1)") [] ≡ reply_with (
       codes "RUN 1,1 END 1 14\n@(RND(2)-1):1\n\n" ++ codes "RUN 1,2 END 1 14\n@(RND(2)-1):2\n\n"
       ++ codes "RUN 2,1 END 1 14\n@(RND(2)-1):1\n\n" ++ codes "RUN 2,2 END 1 14\n@(RND(2)-1):2\n\n")
   pub no_answer : reply_to (choosing (pos 2) (le_z_yes tt) (run [])) (codes "10 INPUT A;PRINT A") [] ≡ run_end
@@ -252,9 +254,9 @@ pub record ChoiceRows : Type 0 where
   -- a line that is left is taken first
   pub line_first : reply_to (choosing (pos 9) (le_z_yes tt) (run (pos 9 ∷ []))) (codes "10 INPUT A,B;PRINT A-B")
       (codes "5\n") ≡ run_end (codes "A:5\nB:9\n    -4\n") 0
-  pub no_line_asked_for : reply_to (choosing (pos 9) (le_z_yes tt) all) (codes "10 PRINT 1") [] ≡ success
+  pub no_line_asked_for : reply_to (choosing (pos 9) (le_z_yes tt) all) (codes "10 PRINT 1") [] ≡ reply_with
       (codes "RUN none END 1 7\n     1\n\n")
-  pub only_answer : reply_to (choosing (pos 1) (le_z_yes tt) all) (codes "10 INPUT A") [] ≡ success
+  pub only_answer : reply_to (choosing (pos 1) (le_z_yes tt) all) (codes "10 INPUT A") [] ≡ reply_with
       (codes "RUN 1 END 1 4\nA:1\n\n")
   pub greatest : reply_to (choosing (pos 32767) (le_z_yes tt) (run (pos 32767 ∷ []))) (codes "10 INPUT A") [] ≡ run_end
       (codes "A:32767\n") 0
@@ -263,11 +265,11 @@ pub record ChoiceRows : Type 0 where
       (codes "A:3\n     5\n") 0
   -- with the steps of a limit
   pub limit : reply_to (record all { rules = record { limit = 1; choose = Some (pos 2); in_range = le_z_yes tt } })
-      (codes "10 INPUT A;PRINT A") [] ≡ success (codes "RUN 1 LIMIT 1 4\nA:1\n\nRUN 2 LIMIT 1 4\nA:2\n\n")
+      (codes "10 INPUT A;PRINT A") [] ≡ reply_with (codes "RUN 1 LIMIT 1 4\nA:1\n\nRUN 2 LIMIT 1 4\nA:2\n\n")
   pub after_first : reply_to (choosing (pos 2) (le_z_yes tt) (listed_after (pos 1 ∷ [])))
-      (codes "10 INPUT A;PRINT A") [] ≡ success (codes "RUN 2 END 2 11\nA:2\n     2\n\n")
+      (codes "10 INPUT A;PRINT A") [] ≡ reply_with (codes "RUN 2 END 2 11\nA:2\n     2\n\n")
   pub first_one : reply_to (choosing (pos 2) (le_z_yes tt) (all_from None (Some 1)))
-      (codes "10 INPUT A;PRINT A") [] ≡ success (codes "RUN 1 END 2 11\nA:1\n     1\n\n")
+      (codes "10 INPUT A;PRINT A") [] ≡ reply_with (codes "RUN 1 END 2 11\nA:1\n     1\n\n")
   pub after_none : reply_to (choosing (pos 2) (le_z_yes tt) (listed_after (pos 3 ∷ [])))
       (codes "10 INPUT A;PRINT A") [] ≡ refusal notes.NoRun
 
@@ -321,9 +323,9 @@ run_of b limit a =
 
 -- programs whose runs are many steps long, or have many answers
 pub record LongRunRows : Type 0 where
-  pub long_loop : reply_to all (codes "10 F.I=1TO200;A=I;N.I\n20 A=RND(3)\n") [] ≡ success
+  pub long_loop : reply_to all (codes "10 F.I=1TO200;A=I;N.I\n20 A=RND(3)\n") [] ≡ reply_with
       (codes "RUN 1 END 402 0\n\nRUN 2 END 402 0\n\nRUN 3 END 402 0\n\n")
-  pub many_answers : reply_to all (codes "10 F.I=1TO69;A=RND(1);N.I\n20 A=RND(2),B=RND(2)\n") [] ≡ success (
+  pub many_answers : reply_to all (codes "10 F.I=1TO69;A=RND(1);N.I\n20 A=RND(2),B=RND(2)\n") [] ≡ reply_with (
       long_report (codes "1,1") ++ long_report (codes "1,2") ++ long_report (codes "2,1") ++ long_report (codes "2,2"))
   -- one of 10001 steps
   pub most_answers : run_of (codes "10 F.I=1TO5000;A=RND(1);N.I") 20000 (replicate 5000 (pos 1))
@@ -331,56 +333,57 @@ pub record LongRunRows : Type 0 where
 
 -- all runs of programs
 pub record AllRows : Type 0 where
-  pub no_program : reply_to all [] [] ≡ success (codes "RUN none END 0 0\n\n")
-  pub one_roll : reply_to all (codes "10 P.RND(2)") [] ≡ success
+  pub no_program : reply_to all [] [] ≡ reply_with (codes "RUN none END 0 0\n\n")
+  pub one_roll : reply_to all (codes "10 P.RND(2)") [] ≡ reply_with
       (codes "RUN 1 END 1 7\n     1\n\nRUN 2 END 1 7\n     2\n\n")
-  pub two_rolls : reply_to all (codes "10 PRINT RND(2)*RND(2)") [] ≡ success
+  pub two_rolls : reply_to all (codes "10 PRINT RND(2)*RND(2)") [] ≡ reply_with
       (codes "RUN 1,1 END 1 7\n     1\n\nRUN 1,2 END 1 7\n     2\n\nRUN 2,1 END 1 7\n     2\n\nRUN 2,2 END 1 7\n     4\n\n")
-  pub roll_after_if : reply_to all (codes "10 A=RND(2);IF A=2 B=RND(3);PRINT B") [] ≡ success
+  pub roll_after_if : reply_to all (codes "10 A=RND(2);IF A=2 B=RND(3);PRINT B") [] ≡ reply_with
       (codes "RUN 1 END 2 0\n\nRUN 2,1 END 4 7\n     1\n\nRUN 2,2 END 4 7\n     2\n\nRUN 2,3 END 4 7\n     3\n\n")
-  pub faulty_run : reply_to all (codes "10 A=RND(2)-1;B=RND(A)") [] ≡ success
+  pub faulty_run : reply_to all (codes "10 A=RND(2)-1;B=RND(A)") [] ≡ reply_with
       (codes "RUN 1 HOW 2 29\nHOW?\n10 A=RND(2)-1;B=RND(A)?\n\nRUN 2,1 END 2 0\n\n")
-  pub limit : reply_to (limited 5 all) (codes "10 GOTO 10") [] ≡ success (codes "RUN none LIMIT 5 0\n\n")
-  pub limit_between : reply_to (limited 1 all) (codes "10 A=RND(2);B=RND(2)") [] ≡ success
+  pub limit : reply_to (limited 5 all) (codes "10 GOTO 10") [] ≡ reply_with (codes "RUN none LIMIT 5 0\n\n")
+  pub limit_between : reply_to (limited 1 all) (codes "10 A=RND(2);B=RND(2)") [] ≡ reply_with
       (codes "RUN 1 LIMIT 1 0\n\nRUN 2 LIMIT 1 0\n\n")
-  pub rolled_input : reply_to all (codes "10 INPUT A;PRINT A") (one_line (codes "RND(2)")) ≡ success
+  pub rolled_input : reply_to all (codes "10 INPUT A;PRINT A") (one_line (codes "RND(2)")) ≡ reply_with
       (codes "RUN 1 END 2 16\nA:RND(2)\n     1\n\nRUN 2 END 2 16\nA:RND(2)\n     2\n\n")
-  pub no_input : reply_to all (codes "10 INPUT A") [] ≡ success (codes "RUN none NOINPUT 1 2\nA:\n")
-  pub index_asked_again : reply_to all (codes "10 INPUT @(RND(2))") (text (codes ")" ∷ codes "5" ∷ [])) ≡ success (
+  pub no_input : reply_to all (codes "10 INPUT A") [] ≡ reply_with (codes "RUN none NOINPUT 1 2\nA:\n")
+  pub index_asked_again : reply_to all (codes "10 INPUT @(RND(2))") (text (codes ")" ∷ codes "5" ∷ [])) ≡ reply_with (
       codes "RUN 1,1 END 1 30\n@(RND(2)):)\nWHAT?\n@(RND(2)):5\n\n"
       ++ codes "RUN 1,2 END 1 30\n@(RND(2)):)\nWHAT?\n@(RND(2)):5\n\n"
       ++ codes "RUN 2,1 END 1 30\n@(RND(2)):)\nWHAT?\n@(RND(2)):5\n\n"
       ++ codes "RUN 2,2 END 1 30\n@(RND(2)):)\nWHAT?\n@(RND(2)):5\n\n")
-  pub endless_calls : reply_to all (codes "10 GOSUB 10") [] ≡ success
+  pub endless_calls : reply_to all (codes "10 GOSUB 10") [] ≡ reply_with
       (codes "RUN none SORRY 257 19\nSORRY\n10 GOSUB 10?\n\n")
-  pub only_answer : reply_to all (codes "10 A=RND(1)") [] ≡ success (codes "RUN 1 END 1 0\n\n")
-  pub end_at_limit : reply_to (limited 1 all) (codes "10 P.1") [] ≡ success (codes "RUN none END 1 7\n     1\n\n")
-  pub calls_in_loops : reply_to all (codes "10 F.I=1TO1;GOS.10") [] ≡ success
+  pub only_answer : reply_to all (codes "10 A=RND(1)") [] ≡ reply_with (codes "RUN 1 END 1 0\n\n")
+  pub end_at_limit : reply_to (limited 1 all) (codes "10 P.1") [] ≡ reply_with (codes "RUN none END 1 7\n     1\n\n")
+  pub calls_in_loops : reply_to all (codes "10 F.I=1TO1;GOS.10") [] ≡ reply_with
       (codes "RUN none SORRY 257 26\nSORRY\n10 F.I=1TO1?;GOS.10\n\n")
 
 -- the runs after one of them, and the first of them
 pub record AfterRows : Type 0 where
-  pub first_two : reply_to (all_from None (Some 2)) (codes "10 PRINT RND(2)*RND(2)") [] ≡ success
+  pub first_two : reply_to (all_from None (Some 2)) (codes "10 PRINT RND(2)*RND(2)") [] ≡ reply_with
       (codes "RUN 1,1 END 1 7\n     1\n\nRUN 1,2 END 1 7\n     2\n\n")
-  pub two_after : reply_to (all_from (Some (pos 1 ∷ pos 1 ∷ [])) (Some 2)) (codes "10 PRINT RND(2)*RND(2)") [] ≡ success
+  pub two_after : reply_to (all_from (Some (pos 1 ∷ pos 1 ∷ [])) (Some 2))
+      (codes "10 PRINT RND(2)*RND(2)") [] ≡ reply_with
       (codes "RUN 1,2 END 1 7\n     2\n\nRUN 2,1 END 1 7\n     2\n\n")
   pub after_second : reply_to (listed_after (pos 2 ∷ pos 1 ∷ []))
-      (codes "10 A=RND(2);IF A=2 B=RND(3);PRINT B") [] ≡ success
+      (codes "10 A=RND(2);IF A=2 B=RND(3);PRINT B") [] ≡ reply_with
       (codes "RUN 2,2 END 4 7\n     2\n\nRUN 2,3 END 4 7\n     3\n\n")
   pub after_last : reply_to (listed_after (pos 2 ∷ pos 3 ∷ []))
-      (codes "10 A=RND(2);IF A=2 B=RND(3);PRINT B") [] ≡ success []
+      (codes "10 A=RND(2);IF A=2 B=RND(3);PRINT B") [] ≡ reply_with []
   pub beginning_of_run : reply_to (listed_after (pos 2 ∷ []))
       (codes "10 A=RND(2);IF A=2 B=RND(3);PRINT B") [] ≡ refusal notes.NoRun
   pub outside : reply_to (listed_after (pos 2 ∷ pos 4 ∷ []))
       (codes "10 A=RND(2);IF A=2 B=RND(3);PRINT B") [] ≡ refusal notes.NoRun
   pub too_long : reply_to (listed_after (pos 2 ∷ pos 1 ∷ pos 1 ∷ []))
       (codes "10 A=RND(2);IF A=2 B=RND(3);PRINT B") [] ≡ refusal notes.NoRun
-  pub after_shorter : reply_to (listed_after (pos 1 ∷ [])) (codes "10 A=RND(2);IF A=2 B=RND(3);PRINT B") [] ≡ success
+  pub after_shorter : reply_to (listed_after (pos 1 ∷ [])) (codes "10 A=RND(2);IF A=2 B=RND(3);PRINT B") [] ≡ reply_with
       (codes "RUN 2,1 END 4 7\n     1\n\nRUN 2,2 END 4 7\n     2\n\nRUN 2,3 END 4 7\n     3\n\n")
   pub greatest : reply_to (listed_after (pos 32767 ∷ [])) (codes "10 P.RND(2)") [] ≡ refusal notes.NoRun
-  pub after_only : reply_to (listed_after []) [] [] ≡ success []
+  pub after_only : reply_to (listed_after []) [] [] ≡ reply_with []
   pub empty_list : reply_to (listed_after []) (codes "10 P.RND(2)") [] ≡ refusal notes.NoRun
-  pub fewer_left : reply_to (all_from (Some (pos 1 ∷ [])) (Some 5)) (codes "10 P.RND(2)") [] ≡ success
+  pub fewer_left : reply_to (all_from (Some (pos 1 ∷ [])) (Some 5)) (codes "10 P.RND(2)") [] ≡ reply_with
       (codes "RUN 2 END 1 7\n     2\n\n")
 
 -- all runs of a program, each answer with its bound
@@ -389,11 +392,11 @@ bounds_later list = all_in Two (Some list) None
 
 -- reports with bounds, and listings after runs that are named with bounds
 pub record BoundRows : Type 0 where
-  pub roll_after_if : reply_to (all_in Two None None) (codes "10 A=RND(2);IF A=2 B=RND(3);PRINT B") [] ≡ success (
+  pub roll_after_if : reply_to (all_in Two None None) (codes "10 A=RND(2);IF A=2 B=RND(3);PRINT B") [] ≡ reply_with (
       codes "RUN 1/2 END 2 0\n\nRUN 2/2,1/3 END 4 7\n     1\n\n"
       ++ codes "RUN 2/2,2/3 END 4 7\n     2\n\nRUN 2/2,3/3 END 4 7\n     3\n\n")
   pub after_bound : reply_to (bounds_later (with_bound (pos 2) (pos 2) ∷ without_bound (pos 1) ∷ []))
-      (codes "10 A=RND(2);IF A=2 B=RND(3);PRINT B") [] ≡ success
+      (codes "10 A=RND(2);IF A=2 B=RND(3);PRINT B") [] ≡ reply_with
       (codes "RUN 2/2,2/3 END 4 7\n     2\n\nRUN 2/2,3/3 END 4 7\n     3\n\n")
   pub other_bound : reply_to (bounds_later (with_bound (pos 2) (pos 3) ∷ with_bound (pos 1) (pos 3) ∷ []))
       (codes "10 A=RND(2);IF A=2 B=RND(3);PRINT B") [] ≡ refusal notes.NoRun
@@ -402,30 +405,33 @@ pub record BoundRows : Type 0 where
   pub beginning_of_run : reply_to (bounds_later (with_bound (pos 2) (pos 2) ∷ []))
       (codes "10 A=RND(2);IF A=2 B=RND(3);PRINT B") [] ≡ refusal notes.NoRun
   pub bounds_and_form_1 : reply_to (all_in One (Some (with_bound (pos 1) (pos 2) ∷ [])) None)
-      (codes "10 P.RND(2)") [] ≡ success (codes "RUN 2 END 1 7\n     2\n\n")
-  pub no_answers : reply_to (all_in Two None None) [] [] ≡ success (codes "RUN none END 0 0\n\n")
-  pub only_answer : reply_to (all_in Two None None) (codes "10 A=RND(1)") [] ≡ success (codes "RUN 1/1 END 1 0\n\n")
-  pub after_none : reply_to (bounds_later []) [] [] ≡ success []
+      (codes "10 P.RND(2)") [] ≡ reply_with (codes "RUN 2 END 1 7\n     2\n\n")
+  pub no_answers : reply_to (all_in Two None None) [] [] ≡ reply_with (codes "RUN none END 0 0\n\n")
+  pub only_answer : reply_to (all_in Two None None) (codes "10 A=RND(1)") [] ≡ reply_with (codes "RUN 1/1 END 1 0\n\n")
+  pub after_none : reply_to (bounds_later []) [] [] ≡ reply_with []
 
 -- runs that a seed draws, one after the other
 pub record SampleRows : Type 0 where
-  pub rolls : reply_to (sampling 7 3 Two) (codes "10 P.RND(6)") [] ≡ success
+  pub rolls : reply_to (sampling 7 3 Two) (codes "10 P.RND(6)") [] ≡ reply_with
       (codes "RUN 3/6 END 1 7\n     3\n\n" ++ codes "RUN 5/6 END 1 7\n     5\n\n"
       ++ codes "RUN 5/6 END 1 7\n     5\n\n")
-  pub form_1 : reply_to (sampling 7 1 One) (codes "10 P.RND(6)") [] ≡ success (codes "RUN 3 END 1 7\n     3\n\n")
-  pub other_seed : reply_to (sampling 0 1 Two) (codes "10 P.RND(6)") [] ≡ success (codes "RUN 6/6 END 1 7\n     6\n\n")
-  pub once_and_twice : reply_to (sampling 7 4 Two) (codes "10 A=RND(2);IF A=2 B=RND(3);PRINT B") [] ≡ success
+  pub form_1 : reply_to (sampling 7 1 One) (codes "10 P.RND(6)") [] ≡ reply_with (codes "RUN 3 END 1 7\n     3\n\n")
+  pub other_seed : reply_to (sampling 0 1 Two) (codes "10 P.RND(6)") [] ≡ reply_with
+      (codes "RUN 6/6 END 1 7\n     6\n\n")
+  pub once_and_twice : reply_to (sampling 7 4 Two) (codes "10 A=RND(2);IF A=2 B=RND(3);PRINT B") [] ≡ reply_with
       (codes "RUN 1/2 END 2 0\n\n" ++ codes "RUN 1/2 END 2 0\n\n" ++ codes "RUN 1/2 END 2 0\n\n"
       ++ codes "RUN 2/2,1/3 END 4 7\n     1\n\n")
   -- each run begins with the first line
-  pub same_lines : reply_to (sampling 7 2 One) (codes "10 INPUT A") (text (codes "RND(6)" ∷ codes "5" ∷ [])) ≡ success
+  pub same_lines : reply_to (sampling 7 2 One) (codes "10 INPUT A")
+      (text (codes "RND(6)" ∷ codes "5" ∷ [])) ≡ reply_with
       (codes "RUN 3 END 1 9\nA:RND(6)\n\n" ++ codes "RUN 5 END 1 9\nA:RND(6)\n\n")
-  pub instead_of_lines : reply_to (choosing (pos 6) (le_z_yes tt) (sampling 7 1 Two)) (codes "10 INPUT A") [] ≡ success
+  pub instead_of_lines : reply_to (choosing (pos 6) (le_z_yes tt) (sampling 7 1 Two))
+      (codes "10 INPUT A") [] ≡ reply_with
       (codes "RUN 3/6 END 1 4\nA:3\n\n")
-  pub no_input : reply_to (sampling 7 1 Two) (codes "10 INPUT A") [] ≡ success (codes "RUN none NOINPUT 1 2\nA:\n")
-  pub limit : reply_to (limited 3 (sampling 7 1 Two)) (codes "10 A=RND(2);GOTO 10") [] ≡ success
+  pub no_input : reply_to (sampling 7 1 Two) (codes "10 INPUT A") [] ≡ reply_with (codes "RUN none NOINPUT 1 2\nA:\n")
+  pub limit : reply_to (limited 3 (sampling 7 1 Two)) (codes "10 A=RND(2);GOTO 10") [] ≡ reply_with
       (codes "RUN 1/2,1/2 LIMIT 3 0\n\n")
-  pub no_question : reply_to (sampling 7 2 Two) [] [] ≡ success
+  pub no_question : reply_to (sampling 7 2 Two) [] [] ≡ reply_with
       (codes "RUN none END 0 0\n\n" ++ codes "RUN none END 0 0\n\n")
   pub refused : reply_to (sampling 7 3 Two) (codes "0 P.") [] ≡ refusal (notes.Load 1 NoNumber)
 
@@ -444,21 +450,21 @@ answers list = unmarked list
 -- shares of a tree
 pub record ShareRows : Type 0 where
   pub second_answer : reply_to (under (answers (pos 2 ∷ [])) None None)
-      (codes "10 A=RND(2);IF A=2 B=RND(3);PRINT B") [] ≡ success
+      (codes "10 A=RND(2);IF A=2 B=RND(3);PRINT B") [] ≡ reply_with
       (codes "RUN 2/2,1/3 END 4 7\n     1\n\n" ++ codes "RUN 2/2,2/3 END 4 7\n     2\n\n"
       ++ codes "RUN 2/2,3/3 END 4 7\n     3\n\n")
   pub first_of_share : reply_to (under (answers (pos 2 ∷ [])) None (Some 1))
-      (codes "10 A=RND(2);IF A=2 B=RND(3);PRINT B") [] ≡ success (codes "RUN 2/2,1/3 END 4 7\n     1\n\n")
+      (codes "10 A=RND(2);IF A=2 B=RND(3);PRINT B") [] ≡ reply_with (codes "RUN 2/2,1/3 END 4 7\n     1\n\n")
   pub after_one : reply_to (under (answers (pos 2 ∷ [])) (Some (answers (pos 2 ∷ pos 1 ∷ []))) None)
-      (codes "10 A=RND(2);IF A=2 B=RND(3);PRINT B") [] ≡ success
+      (codes "10 A=RND(2);IF A=2 B=RND(3);PRINT B") [] ≡ reply_with
       (codes "RUN 2/2,2/3 END 4 7\n     2\n\n" ++ codes "RUN 2/2,3/3 END 4 7\n     3\n\n")
   pub run_alone : reply_to (under (answers (pos 2 ∷ pos 3 ∷ [])) None None)
-      (codes "10 A=RND(2);IF A=2 B=RND(3);PRINT B") [] ≡ success (codes "RUN 2/2,3/3 END 4 7\n     3\n\n")
+      (codes "10 A=RND(2);IF A=2 B=RND(3);PRINT B") [] ≡ reply_with (codes "RUN 2/2,3/3 END 4 7\n     3\n\n")
   pub first_answer : reply_to (under (answers (pos 1 ∷ [])) None None)
-      (codes "10 A=RND(2);IF A=2 B=RND(3);PRINT B") [] ≡ success (codes "RUN 1/2 END 2 0\n\n")
+      (codes "10 A=RND(2);IF A=2 B=RND(3);PRINT B") [] ≡ reply_with (codes "RUN 1/2 END 2 0\n\n")
   pub with_bounds : reply_to (under (with_bound (pos 2) (pos 2) ∷ with_bound (pos 1) (pos 3) ∷ []) None None)
-      (codes "10 A=RND(2);IF A=2 B=RND(3);PRINT B") [] ≡ success (codes "RUN 2/2,1/3 END 4 7\n     1\n\n")
-  pub whole : reply_to (under [] None None) (codes "10 A=RND(2);IF A=2 B=RND(3);PRINT B") [] ≡ success
+      (codes "10 A=RND(2);IF A=2 B=RND(3);PRINT B") [] ≡ reply_with (codes "RUN 2/2,1/3 END 4 7\n     1\n\n")
+  pub whole : reply_to (under [] None None) (codes "10 A=RND(2);IF A=2 B=RND(3);PRINT B") [] ≡ reply_with
       (codes "RUN 1/2 END 2 0\n\n" ++ codes "RUN 2/2,1/3 END 4 7\n     1\n\n" ++ codes "RUN 2/2,2/3 END 4 7\n     2\n\n"
       ++ codes "RUN 2/2,3/3 END 4 7\n     3\n\n")
   pub too_long : reply_to (under (answers (pos 1 ∷ pos 1 ∷ [])) None None)
@@ -472,7 +478,7 @@ pub record ShareRows : Type 0 where
   -- the beginning is looked at first
   pub neither : reply_to (under (answers (pos 3 ∷ [])) (Some (answers (pos 9 ∷ []))) None)
       (codes "10 A=RND(2);IF A=2 B=RND(3);PRINT B") [] ≡ refusal notes.NoBeginning
-  pub empty_program : reply_to (under [] None None) [] [] ≡ success (codes "RUN none END 0 0\n\n")
+  pub empty_program : reply_to (under [] None None) [] [] ≡ reply_with (codes "RUN none END 0 0\n\n")
 
 pub record RefusalRows : Type 0 where
   pub number : reply_to (run []) (codes "32768 P.1") [] ≡ refusal (notes.Load 1 NumberTooBig)
@@ -490,10 +496,10 @@ pub record RefusalRows : Type 0 where
 pub record ListingRows : Type 0 where
   pub listing : reply_to list
       (text (codes "10 P.1" ∷ codes "20 P.2" ∷ (codes "010" ++ 9 ∷ codes "P.3" ++ 13 ∷ []) ∷ codes "20" ∷ [])) []
-      ≡ success
+      ≡ reply_with
       (one_line (codes "10 P.3"))
-  pub empty : reply_to list [] [] ≡ success []
-  pub line_order : reply_to list (text (codes "20 P.2" ∷ codes "5 P.1" ∷ [])) [] ≡ success
+  pub empty : reply_to list [] [] ≡ reply_with []
+  pub line_order : reply_to list (text (codes "20 P.2" ∷ codes "5 P.1" ∷ [])) [] ≡ reply_with
       (text (codes "5 P.1" ∷ codes "20 P.2" ∷ []))
 
 -- ---- the command line

@@ -37,7 +37,7 @@ use Rattle.ptb_options.specs.declared.request.Mode.TheVariants as modes
 use Rattle.ptb_options.specs.declared.request.Request.{Request}
 use Rattle.ptb_serve.specs.Loaded.{ReadsInput, RefusesListIn, ServesProgram}
 use Rattle.ptb_machine.specs.PlainRuns.{IsUnreadable, input_limit}
-use Rattle.ptb_serve.specs.Replies.{Reply, refusal, success, answers_under, front_note}
+use Rattle.ptb_serve.specs.Replies.{Reply, refusal, reply_with, answers_under, front_note}
 use Rattle.ptb_serve.specs.Replies.{is_front, is_share, listed_runs, listing_reply, runs_reply}
 use Rattle.ptb_serve.specs.Replies.{all_reply, reply_in_mode}
 use Rattle.ptb_serve.specs.ServedRequests.{outcome_of, device_note, reports_note, IsPlainRun, IsUnloaded}
@@ -179,15 +179,15 @@ module _ (p : StoredProgram) (rules : Rules) (under after : Option (List Marked)
   due input = listed_runs (game input) (most_answers p input rules.limit) under after first form
 
   pub reply-listed : (input : List (List ℕ)) → front_note (game input) under after ≡ None
-      → reply input ≡ success (due input)
+      → reply input ≡ reply_with (due input)
   unfolding runs_reply
-  reply-listed input h = ap (λ (o : Option Note). elim o [ None ↦ success (due input) | Some note ↦ refusal note ]) h
+  reply-listed input h = ap (λ (o : Option Note). elim o [ None ↦ reply_with (due input) | Some note ↦ refusal note ]) h
 
   pub reply-refused : (input : List (List ℕ)) (note : Note) → front_note (game input) under after ≡ Some note
       → reply input ≡ refusal note
   unfolding runs_reply
   reply-refused input note h =
-      ap (λ (o : Option Note). elim o [ None ↦ success (due input) | Some note ↦ refusal note ]) h
+      ap (λ (o : Option Note). elim o [ None ↦ reply_with (due input) | Some note ↦ refusal note ]) h
 
   -- ---- how it is served, where nothing was written
 
@@ -326,14 +326,14 @@ module _ (mode : Mode) (no_check : IsCheck mode → ⊥) (request : Request) (p 
       → IsErrOf result notes.OutOfMemory → StopsForMemory mode request b c old new)
       → SilentBy mode (outcome_of result).note old new → OnOk result (result ≡ Ok 0)
       → (IsUnloaded (outcome_of result).note → ⊥) → ServesProgram mode request p i j old new result
-  serves_mode served taken unread stopped quiet success loaded = record {
+  serves_mode served taken unread stopped quiet reply_with loaded = record {
     served = served;
     taken = λ b _. taken b;
     unread = λ b _. unread b;
     silent = quiet;
     stopped = stopped;
-    status = zero_within result success;
-    success = λ _ _. success;
+    status = zero_within result reply_with;
+    reply_with = λ _ _. reply_with;
     checked = λ x. absurd (no_check x);
     loaded = loaded;
   }
@@ -405,10 +405,10 @@ module _ (request : Request) (p : StoredProgram) (memory : p.memory ≡ request.
       → SilentBy modes.List (outcome_of result).note old new
       → OnOk result (result ≡ Ok 0) → (IsUnloaded (outcome_of result).note → ⊥)
       → ServesProgram modes.List request p i i old new result
-  text_serves old new served quiet success loaded =
+  text_serves old new served quiet reply_with loaded =
       serves_mode modes.List (λ x. x) request p i i old new result
       (λ b c l is. serves_loaded request.memory (Some b) listing_reply p old new result l memory served)
-      (λ b. nothing_told i) (λ b x. absurd (fine x)) (λ b c _ _ _. tt) quiet success loaded
+      (λ b. nothing_told i) (λ b x. absurd (fine x)) (λ b c _ _ _. tt) quiet reply_with loaded
 
 -- ---- an input that is left alone
 

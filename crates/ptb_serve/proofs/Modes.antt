@@ -19,7 +19,7 @@ use Rattle.ptb_machine.specs.declared.run_end.RunEnd.{RunEnd}
 use Rattle.ptb_machine.specs.PlainRuns.{HasLine, WantsMemory}
 use Rattle.ptb_machine.specs.Streams.{Reads, Writes}
 use Rattle.ptb_serve.specs.Loaded.{IsServed, IsServedIn, IsServedUnread, IsRunStatus, ReadsInput, ServesProgram}
-use Rattle.ptb_serve.specs.Loaded.{TellsFailures, TellsLine, TellsMismatch, line_in_mode, line_of}
+use Rattle.ptb_serve.specs.Loaded.{TellsFailures, TellsLine, TellsMismatch, line_in_mode, end_line}
 use Rattle.ptb_machine.specs.SeededRuns.{seeded_answers}
 use Rattle.ptb_serve.specs.ServedRequests.{IsPlainRun, NeedsInput, NeedsWholeInput}
 use Rattle.ptb_serve.proofs.Lines.{none_stopped, run_line}
@@ -39,9 +39,9 @@ module _ (request : Request) (p : StoredProgram) where
       pub served_plain : (a b : Answers) → mode ≡ modes.Plain a → b ≡ a → Ran request p (λ _. b) input out r
           → (IsErrOf r faults.Memory → Appends out.before out.after [])
           → IfOk end (HasLine p request.rules (λ _. b) input)
-          → IsServedIn request p input out result None (line_of end) mode
+          → IsServedIn request p input out result None (end_line end) mode
       served_plain a b is same ran quiet line =
-          subst (IsServedIn request p input out result None (line_of end)) (ap modes.Plain same ∙ sym is)
+          subst (IsServedIn request p input out result None (end_line end)) (ap modes.Plain same ∙ sym is)
           (record {
             serves = plain_serves request p input out r result status b ran memory quiet;
             reads = plain_reads request p input out r result status b ran;
@@ -58,9 +58,9 @@ module _ (request : Request) (p : StoredProgram) where
           → (IsErrOf r faults.Memory
           → WantsMemory p request.rules (λ lines. seeded_answers seed p lines request.rules) input out)
           → IfOk end (HasLine p request.rules (λ lines. seeded_answers seed p lines request.rules) input)
-          → IsServedIn request p input out result None (line_of end) mode
+          → IsServedIn request p input out result None (end_line end) mode
       served_seeded seed is ran wants line =
-          subst (IsServedIn request p input out result None (line_of end)) (sym is)
+          subst (IsServedIn request p input out result None (end_line end)) (sym is)
           (record {
             serves = seeded_serves request p input out r result status seed ran memory wants;
             reads = seeded_reads request p input out r result status seed ran;

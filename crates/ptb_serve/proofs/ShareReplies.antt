@@ -28,7 +28,7 @@ use Rattle.ptb_explore.specs.Report.{report}
 use Rattle.ptb_explore.specs.RunTree.{Start, answers_to, is_left, runs_after, tree}
 use Rattle.ptb_options.specs.declared.request.Mode.{Mode}
 use Rattle.ptb_options.specs.declared.request.Mode.TheVariants as modes
-use Rattle.ptb_serve.specs.Replies.{Reply, all_reply, shares_reply, success}
+use Rattle.ptb_serve.specs.Replies.{Reply, all_reply, shares_reply, reply_with}
 use Rattle.ptb_serve.specs.ReplyLaws.{ShareReplies, SplitsRuns}
 use Rattle.ptb_serve.proofs.Fronts.{begun_under, both_parts, both_true}
 use Rattle.ptb_serve.proofs.Listed.{reply-listed}
@@ -125,7 +125,7 @@ module _ (p : StoredProgram) (c : List ℕ) (rules : Rules)
       text (report form game) (runs_after game (most_answers p (input_lines c) rules.limit) under Start)
 
   reply_share : (under : List Marked) (form : Form) → IsMarkedBeginning game under
-      → reply (modes.All (Some under) None None form) ≡ success (share_text form (answers_of under))
+      → reply (modes.All (Some under) None None form) ≡ reply_with (share_text form (answers_of under))
   reply_share under form b =
       all (Some under) None None form
       ∙ reply-listed p rules (Some under) None None form (input_lines c) (begun_under game under b)
@@ -144,7 +144,7 @@ module _ (p : StoredProgram) (c : List ℕ) (rules : Rules)
 
   question : (under : List Marked) (n : ℤ) (shown : List ℕ) (form : Form) → IsMarkedBeginning game under
       → game (answers_of under) ≡ Asks n shown
-      → reply (modes.All (Some under) None None form) ≡ success (flat_map
+      → reply (modes.All (Some under) None None form) ≡ reply_with (flat_map
       (λ k. (reply (modes.All (Some (under ++ without_bound k ∷ [])) None None form)).bytes) (answers_to n))
   question under n shown form b asks =
       let more : (k : ℤ) → is_answer n k ≡ true → share_text form (answers_of under ++ k ∷ [])
@@ -152,13 +152,14 @@ module _ (p : StoredProgram) (c : List ℕ) (rules : Rules)
       λ k i. ap (share_text form) (sym (answers_more under k)) ∙ sym (ap (λ (r : Reply). r.bytes)
       (reply_share (under ++ without_bound k ∷ []) form (begins_more under n k shown b asks i))) in
       reply_share under form b
-      ∙ ap success (share.question (report form game) (answers_of under) n shown Start asks ∙ same_answers _ _ n more)
+      ∙ ap reply_with
+      (share.question (report form game) (answers_of under) n shown Start asks ∙ same_answers _ _ n more)
 
   run : (a : List Marked) (form : Form) → IsMarkedRun game a
-      → reply (modes.All (Some a) None None form) ≡ success (report form game (answers_of a))
+      → reply (modes.All (Some a) None None form) ≡ reply_with (report form game (answers_of a))
   run a form r =
       let ends = whole_is (game (answers_of a)) r.0 in
-      reply_share a form (ap is_open ends.1, r.1) ∙ ap success
+      reply_share a form (ap is_open ends.1, r.1) ∙ ap reply_with
       (ap (text (report form game)) (share.run (answers_of a) r.0) ∙ append-nil (report form game (answers_of a)))
 
   pub share_replies : ((after : Option (List Marked)) (first : Option ℕ) (form : Form)
@@ -202,11 +203,12 @@ module _ (p : StoredProgram) (c : List ℕ) (rules : Rules)
         (reply_share (items form u) shown (marks form u (in_contained u (beginnings n game) i))))
 
     joined : (form shown : Form)
-        → reply (modes.All None None None shown) ≡ success
+        → reply (modes.All None None None shown) ≡ reply_with
         (flat_map (λ u. (reply (modes.All (Some (items form u)) None None shown)).bytes) (beginnings n game))
     joined form shown =
         all None None None shown ∙ reply-listed p rules None None None shown (input_lines c) refl
-        ∙ ap success (ap (text (report shown game)) (all_left (tree game (most_answers p (input_lines c) rules.limit)))
+        ∙ ap reply_with
+        (ap (text (report shown game)) (all_left (tree game (most_answers p (input_lines c) rules.limit)))
         ∙ sym (laws.whole_text (report shown game)) ∙ same_each _ _ (beginnings n game) (each_share form shown))
 
     pub splits_runs : ((form : Form) → reply (modes.Shares n form) ≡ shares_reply p (input_lines c) rules n form)

@@ -9,7 +9,7 @@
 --     IsServedUnread mode ..      the same of a mode that leaves the input alone
 --     IsServedOn mode ..          the same of lines that were read
 --     TellsMismatch mode ..       what is said of a list accompanies its note, and is true; and each such note has it
---     line_of ended               the line at which the limit stopped a run
+--     end_line ended               the line at which the limit stopped a run
 --     line_in_mode mode p lines rules     the same of the play on these lines
 --     TellsLine mode ..           where the limit stopped a run, the line is that of the play
 use Rattle.std.specs.Prelude.{◌≡◌, ◌⊎◌, ◌+◌, ◌≤◌, ℕ, List, length, Option, None, Result, Ok, Err}
@@ -96,9 +96,9 @@ pub record TellsMismatch (mode : Mode) (request : Request) (p : StoredProgram) (
   pub noted : IfSome mismatch (λ m. IsErrOf result (mismatch_note m))
   pub fits : (c : List ℕ) → IsInput mode known c → IfSome mismatch (IsMismatchOf mode p (input_lines c) request.rules)
 
-abbrev pub line_of : Result RunEnd RunFault → Option ℕ
-line_of (Ok end) = end.line
-line_of (Err fault) = None
+abbrev pub end_line : Result RunEnd RunFault → Option ℕ
+end_line (Ok end) = end.line
+end_line (Err fault) = None
 
 abbrev pub line_in_mode : Mode → StoredProgram → List (List ℕ) → Rules → Option ℕ
 line_in_mode (modes.Plain a) p lines rules = stopping_line p lines rules a

@@ -44,8 +44,8 @@ pub record Reply : Type 0 where
 abbrev pub refusal : Note → Reply
 refusal note = record { bytes = []; status = note_status note; note = Some note }
 
-abbrev pub success : List ℕ → Reply
-success bytes = record { bytes = bytes; status = 0; note = None }
+abbrev pub reply_with : List ℕ → Reply
+reply_with bytes = record { bytes = bytes; status = 0; note = None }
 
 -- the bytes and the ending of a run
 abbrev pub run_reply : List ℕ × Ending → Reply
@@ -70,7 +70,7 @@ check_status false = 0
 check_status true = 1
 
 abbrev pub listing_reply : StoredProgram → Reply
-listing_reply p = success (listing p.lines)
+listing_reply p = reply_with (listing p.lines)
 
 -- each mistake in the text, and status 1 where there is one
 abbrev pub check_reply : StoredProgram → Reply
@@ -135,7 +135,7 @@ unfoldable pub runs_reply : (Answers → Outcome Finish (List ℕ)) → ℕ → 
     → Option ℕ → Form → Reply
 runs_reply game most under after first form =
     elim (front_note game under after) [
-      | None ↦ success (listed_runs game most under after first form)
+      | None ↦ reply_with (listed_runs game most under after first form)
       | Some note ↦ refusal note
     ]
 
@@ -150,7 +150,7 @@ all_reply p input rules under after first form =
 -- those of at most n answers, a line each
 abbrev pub shares_reply : StoredProgram → List (List ℕ) → Rules → ℕ → Form → Reply
 shares_reply p input rules n form =
-    success (text (beginning_line form (play p input rules)) (beginnings n (play p input rules)))
+    reply_with (text (beginning_line form (play p input rules)) (beginnings n (play p input rules)))
 
 -- ---- a sample
 
@@ -160,14 +160,14 @@ runs_drawn game most seed runs = sampled_runs most game (generator_of seed) runs
 
 -- their reports
 abbrev pub sample_reply : StoredProgram → List (List ℕ) → Rules → ℕ → ℕ → Form → Reply
-sample_reply p input rules seed runs form = success (text (report form (play p input rules))
+sample_reply p input rules seed runs form = reply_with (text (report form (play p input rules))
     (runs_drawn (play p input rules) (most_answers p input rules.limit) seed runs))
 
 -- ---- the chances
 
 -- the table of all results that runs have
 abbrev pub chances_reply : StoredProgram → List (List ℕ) → Rules → Reply
-chances_reply p input rules = success (chances (play p input rules) (most_answers p input rules.limit))
+chances_reply p input rules = reply_with (chances (play p input rules) (most_answers p input rules.limit))
 
 -- ---- the complete tool
 

@@ -45,7 +45,7 @@ use Rattle.ptb_chances.specs.TableLaws.{TableLaws}
 use Rattle.ptb_check.specs.Laws.{CheckLaws}
 use Rattle.ptb_check.specs.Mistakes.{mistakes, mistakes_text}
 use Rattle.ptb_machine.specs.SeededRuns.{IsDrawn}
-use Rattle.ptb_serve.specs.Replies.{Reply, refusal, success, run_reply, program_of_text, reply_to}
+use Rattle.ptb_serve.specs.Replies.{Reply, refusal, reply_with, run_reply, program_of_text, reply_to}
 
 -- All replies of a listing come from one list of runs, whatever number of them is asked for, and in whatever form.
 pub record ListsRuns (play : Answers → Outcome Finish (List ℕ)) (IsListed : Answers → Type 0) (reply : Option ℕ → Form
@@ -56,9 +56,9 @@ pub record ListsRuns (play : Answers → Outcome Finish (List ℕ)) (IsListed : 
   -- a list of answers is there exactly where it is to be listed
   pub members : (a : Answers) → Contains runs a ↔ IsListed a
   -- where no number is given, the report of each is written, one after the other, and the status is 0
-  pub all : (form : Form) → reply None form ≡ success (text (report form play) runs)
+  pub all : (form : Form) → reply None form ≡ reply_with (text (report form play) runs)
   -- with a number n, the reports of the first n of them, or of all where there are fewer
-  pub first : (n : ℕ) (form : Form) → reply (Some n) form ≡ success (text (report form play) (take n runs))
+  pub first : (n : ℕ) (form : Form) → reply (Some n) form ≡ reply_with (text (report form play) (take n runs))
 
 -- A seed gives the answers of one run: each is drawn from the seed for the bound of its question. No other list of
 -- answers is drawn so.
@@ -82,13 +82,13 @@ pub record SamplesBySeed (seed : ℕ) (play : Answers → Outcome Finish (List �
   pub first : (a : Answers) (later : ℕ) → n ≡ suc later → IsDrawn seed play a
       → (rest : List Answers) × (runs ≡ a ∷ rest)
   -- the report of each is written in this order, and the status is 0
-  pub reports : (form : Form) → reply form ≡ success (text (report form play) runs)
+  pub reports : (form : Form) → reply form ≡ reply_with (text (report form play) runs)
 
 -- The results of all runs, each with its exact chance and the number of its runs. A result is an ending and the last
 -- line that was shown.
 pub record TellsChances (play : Answers → Outcome Finish (List ℕ)) (most : ℕ) (reply : Reply) : Type 0 where
   -- the table of the tree is written, whose members are the runs, and the status is 0
-  pub rows : reply ≡ success (table_text (table play (tree play most)))
+  pub rows : reply ≡ reply_with (table_text (table play (tree play most)))
   -- the results rise, their chances add up to 1, and their numbers of runs to that of all runs
   pub laws : TableLaws play most
 
@@ -104,11 +104,11 @@ pub record ShareReplies (play : Answers → Outcome Finish (List ℕ)) (reply : 
   -- one after the other
   pub question : (under : List Marked) (n : ℤ) (shown : List ℕ) (form : Form) → IsMarkedBeginning play under
       → play (answers_of under) ≡ Asks n shown
-      → reply (modes.All (Some under) None None form) ≡ success (flat_map
+      → reply (modes.All (Some under) None None form) ≡ reply_with (flat_map
       (λ k. (reply (modes.All (Some (under ++ without_bound k ∷ [])) None None form)).bytes) (answers_to n))
   -- the share of a run is its report
   pub run : (a : List Marked) (form : Form) → IsMarkedRun play a
-      → reply (modes.All (Some a) None None form) ≡ success (report form play (answers_of a))
+      → reply (modes.All (Some a) None None form) ≡ reply_with (report form play (answers_of a))
   -- where two lists first differ, no run begins with both
   pub apart : (u v a : Answers) → Before u v → IsRun play a → begins_with a u ≡ true → begins_with a v ≡ true → ⊥
 
@@ -126,12 +126,12 @@ pub record SplitsRuns (play : Answers → Outcome Finish (List ℕ)) (n : ℕ) (
   -- none begins with another
   pub apart : (u later : Answers) (k : ℤ) → Contains lists u → Contains lists (u ++ k ∷ later) → ⊥
   -- the line of each is written in this order, and the status is 0
-  pub lines : (form : Form) → reply (modes.Shares n form) ≡ success (text (beginning_line form play) lists)
+  pub lines : (form : Form) → reply (modes.Shares n form) ≡ reply_with (text (beginning_line form play) lists)
   -- some run begins with each, and the bounds in its line are those of its questions
   pub begins : (form : Form) (u : Answers) → Contains lists u → IsMarkedBeginning play (line_items form play u)
   -- the replies to the shares of these lists, one after the other, are the reply to all runs
   pub joined : (form shown : Form) → reply (modes.All None None None shown)
-      ≡ success (flat_map (λ u. (reply (modes.All (Some (line_items form play u)) None None shown)).bytes) lists)
+      ≡ reply_with (flat_map (λ u. (reply (modes.All (Some (line_items form play u)) None None shown)).bytes) lists)
 
 -- `play` gives the result of the program on the input, by the list of answers. No run has more answers than `most`.
 pub record RunReplies (play : Answers → Outcome Finish (List ℕ)) (most : ℕ) (reply : Mode → Reply) : Type 0 where
@@ -227,7 +227,7 @@ pub record ReplyLaws : Type 0 where
       (λ mode. reply_to (record { rules = rules; memory = memory; mode = mode; in_range = size }) b c)
   -- the reply to a listing of a text that is accepted is the listing of its lines
   pub listed : (r : Request) (b c : List ℕ) (p : Statements) → program_of_text r.memory b ≡ Ok p → r.mode ≡ modes.List
-      → reply_to r b c ≡ success (listing p)
+      → reply_to r b c ≡ reply_with (listing p)
   -- the reply to a check of a text that is accepted is its mistakes
   pub checked : (r : Request) (b c : List ℕ) (p : Statements) → program_of_text r.memory b ≡ Ok p → r.mode ≡ modes.Check
       → ChecksText p (reply_to r b c)

@@ -4,7 +4,7 @@
 
 ghost use Rattle.std.specs.Prelude.{◌≡◌, IfSome, IsErrOf, None};
 ghost use Rattle.ptb_serve.specs.Prelude.{status, ending_alone, reads_of, writes_of, IsRunStatus, IsServedIn};
-ghost use Rattle.ptb_serve.specs.Prelude.{line_of, FailsLoudly, ReadsOnlyWhatIsAsked, Served, ReplyLaws, outcome_of};
+ghost use Rattle.ptb_serve.specs.Prelude.{end_line, FailsLoudly, ReadsOnlyWhatIsAsked, Served, ReplyLaws, outcome_of};
 
 use crate::all_runs::{Listing, list_runs};
 use crate::attempt::Attempt;
@@ -172,7 +172,7 @@ fn run_attempt(ended: Result<RunEnd, RunFault>) -> Attempt
     requires { ¬ IsErrOf (ending_alone ended) RunFault.Spent }
     ensures status { IsRunStatus (ending_alone ended) result.served }
     ensures mismatch { result.mismatch ≡ None }
-    ensures line { result.line ≡ line_of ended }
+    ensures line { result.line ≡ end_line ended }
 {
     match ended {
         Ok(end) => Attempt {

@@ -4,7 +4,7 @@ use Rattle.std.proofs.Common.{Err, Some, None, FitsSigned, w16, to_z-of_z}
 use Rattle.ptb_answers.specs.Outcome.{is_open}
 use Rattle.ptb_code.specs.State.{State}
 use Rattle.ptb_explore.specs.PlannedPlays.{run_from}
-use Rattle.ptb_chances.specs.Planned.{PlanAnswers, choices_of}
+use Rattle.ptb_chances.specs.Planned.{PlanAnswers, plan_choices}
 use Rattle.ptb_chances.specs.Standing.{Came}
 use Rattle.ptb_chances.proofs.PlaySteps.{advanced, came_by, came_first, none_follow, never_out, never_unread}
 use Rattle.ptb_chances.proofs.PlaySteps.{never_unwritten, plays_by, step_came, step_plays}
@@ -15,14 +15,14 @@ use Rattle.ptb_chances.proofs.plays.play_plan.Goals.{After-advance}
 
 -- what came before still holds after the machine advanced
 advances : (c : After-advance) (S : State)
-    → Came c.commands.player c.args.rules S (choices_of c.commands.plan).taken c.commands.machine
+    → Came c.commands.player c.args.rules S (plan_choices c.commands.plan).taken c.commands.machine
     (drop c.commands.console.source.taken c.commands.console.source.lines) c.commands.console.screen
-    → Came c.advance.new.self c.args.rules S (choices_of c.commands.plan).taken c.advance.new.machine
+    → Came c.advance.new.self c.args.rules S (plan_choices c.commands.plan).taken c.advance.new.machine
     (drop c.commands.console.source.taken c.commands.console.source.lines) c.commands.console.screen
 advances c S came =
     let turns = c.advance.ensures.turns in
     advanced c.run_laws.ensures c.commands.player c.args.rules c.advance.new.self turns.0 S c.commands.machine
-    c.advance.new.machine (choices_of c.commands.plan).taken c.commands.console.screen _ c.advance.ensures.program
+    c.advance.new.machine (plan_choices c.commands.plan).taken c.commands.console.screen _ c.advance.ensures.program
     came turns.1.1
 
 pub commands-init : goal.commands-init
@@ -50,7 +50,7 @@ commands-preserved c =
     record {
       program = c.step.ensures.program ∙ (c.advance.ensures.program ∙ i.program);
       answers = step_plan c.run_laws.ensures c.advance.new.self c.args.rules o.0 _ _
-          (choices_of l.plan) c.step.new.chooser _ _ turn.given _ _ _ _ _ u turn.gives.first
+          (plan_choices l.plan) c.step.new.chooser _ _ turn.given _ _ _ _ _ u turn.gives.first
           (none_follow c.step.new.source) turn.steps None is ∙ i.answers;
       same_lines = turn.gives.same_lines ∙ i.same_lines;
       within = rw (← i.same_lines) (taken_within l.console.source c.step.new.source turn.given turn.gives
@@ -60,8 +60,8 @@ commands-preserved c =
       came = λ S h.
           let v = advances (goal.at.commands-preserved c).After-advance S (i.came S h) in
           came_by c.advance.new.self c.step.new.self c.args.rules S _ _ _ _ _ _ (sym c.step.ensures.program) refl refl
-          (step_came c.run_laws.ensures c.advance.new.self c.args.rules S _ _ (choices_of l.plan)
-          (choices_of c.step.new.chooser) _ _ turn.given _ _ _ _ _ _ is v turn.gives.first
+          (step_came c.run_laws.ensures c.advance.new.self c.args.rules S _ _ (plan_choices l.plan)
+          (plan_choices c.step.new.chooser) _ _ turn.given _ _ _ _ _ _ is v turn.gives.first
           (none_follow c.step.new.source) turn.steps);
     }
 
@@ -75,11 +75,11 @@ ended-requires c = λ bad.
     let o = c.requires.opens in
     let u = advances (goal.at.ended-requires c).After-advance o.0 (i.came o.0 o.1) in
     let plan = step_plan c.run_laws.ensures c.advance.new.self c.args.rules o.0 _ _
-    (choices_of l.plan) c.step.new.chooser _ _ turn.given _ _ _ _ _ u turn.gives.first
+    (plan_choices l.plan) c.step.new.chooser _ _ turn.given _ _ _ _ _ u turn.gives.first
     (none_follow c.step.new.source) turn.steps (Some c.in-Ok-Some.ending) is in
     let opens : is_open (run_from c.advance.new.self c.args.rules o.0 c.step.new.chooser.answers) ≡ true =
     rw (c.advance.ensures.program ∙ i.program, plan ∙ i.answers) o.2 in
-    never_out c.run_laws.ensures c.advance.new.self c.args.rules o.0 _ _ (choices_of l.plan) c.step.new.chooser
+    never_out c.run_laws.ensures c.advance.new.self c.args.rules o.0 _ _ (plan_choices l.plan) c.step.new.chooser
     _ _ turn.given _ _ _ _ _ u turn.gives.first (none_follow c.step.new.source) turn.steps opens
     (is ∙ ap (λ e. Ok (Some e)) bad)
 
@@ -94,19 +94,20 @@ returns-in-Ok-Some-clause-plays c = (
       let turn = c.step.ensures.step.turn in
       let v = advances (goal.at.returns-in-Ok-Some-clause-plays c).After-advance S (i.came S h) in
       let plan = step_plan c.run_laws.ensures c.advance.new.self c.args.rules S _ _
-      (choices_of l.plan) c.step.new.chooser _ _ turn.given _ _ _ _ _ v turn.gives.first
+      (plan_choices l.plan) c.step.new.chooser _ _ turn.given _ _ _ _ _ v turn.gives.first
       (none_follow c.step.new.source) turn.steps (Some c.in-Ok-Some.ending) is in
       let o = c.requires.opens in
       let u = advances (goal.at.returns-in-Ok-Some-clause-plays c).After-advance o.0 (i.came o.0 o.1) in
       let opens : is_open (run_from c.advance.new.self c.args.rules o.0 c.step.new.chooser.answers) ≡ true =
       rw (c.advance.ensures.program ∙ i.program, plan ∙ i.answers) o.2 in
       let fits : FitsSigned w16 c.step.new.chooser.refused_bound = search rules in
-      let x = step_plays c.run_laws.ensures c.advance.new.self c.args.rules S _ _ (choices_of l.plan) c.step.new.chooser
+      let x = step_plays c.run_laws.ensures c.advance.new.self c.args.rules S _ _ (plan_choices l.plan)
+      c.step.new.chooser
       _ _ turn.given _ _ _ _ _ v turn.gives.first (none_follow c.step.new.source) turn.steps
       c.in-Ok-Some.ending c.args.player.now c.args.answers.now _ (c.advance.ensures.program ∙ i.program)
       (plan ∙ i.answers)
       (λ bad. never_out c.run_laws.ensures c.advance.new.self c.args.rules o.0 _ _
-      (choices_of l.plan) c.step.new.chooser _ _ turn.given _ _ _ _ _ u turn.gives.first
+      (plan_choices l.plan) c.step.new.chooser _ _ turn.given _ _ _ _ _ u turn.gives.first
       (none_follow c.step.new.source) turn.steps opens (is ∙ ap (λ e. Ok (Some e)) bad))
       is (rw (to_z-of_z fits) at (rw c.refused_bound.ensures at c.ended.ensures)) in
       plays_by _ _ _ _ _ _ _ _ _ _ (ap (drop c.step.new.source.taken) (turn.gives.same_lines ∙ i.same_lines)) x,
@@ -135,15 +136,15 @@ returns-then-is_used_up-clause-plays c = (
       let is : c.step.result ≡ Ok None = c.in-Ok-None.is ∙ ap Ok c.in-Ok-None.field-0-is in
       let turn = c.step.ensures.step.turn in
       let v = advances (goal.at.returns-then-is_used_up-clause-plays c).After-advance S (i.came S h) in
-      let plan = step_plan c.run_laws.ensures c.advance.new.self c.args.rules S _ _ (choices_of l.plan)
+      let plan = step_plan c.run_laws.ensures c.advance.new.self c.args.rules S _ _ (plan_choices l.plan)
       c.step.new.chooser _ _ turn.given _ _ _ _ _ v turn.gives.first (none_follow c.step.new.source) turn.steps None
       is in
       let given : c.step.new.chooser.given ≡ length c.step.new.chooser.answers = search rules in
       came_by c.advance.new.self c.args.player.now c.args.rules S _ _ _ _ _ _ (c.advance.ensures.program ∙ i.program)
       (ap (λ n. take n c.step.new.chooser.answers) given ∙ whole c.step.new.chooser.answers ∙ plan ∙ i.answers)
       (ap (drop c.step.new.source.taken) (turn.gives.same_lines ∙ i.same_lines))
-      (step_came c.run_laws.ensures c.advance.new.self c.args.rules S _ _ (choices_of l.plan)
-      (choices_of c.step.new.chooser) _ _ turn.given _ _ _ _ _ _ is v turn.gives.first
+      (step_came c.run_laws.ensures c.advance.new.self c.args.rules S _ _ (plan_choices l.plan)
+      (plan_choices c.step.new.chooser) _ _ turn.given _ _ _ _ _ _ is v turn.gives.first
       (none_follow c.step.new.source) turn.steps),
 )
 
@@ -153,7 +154,7 @@ unreachable-requires c =
     let u = advances (goal.at.unreachable-requires c).After-advance c.requires.opens.0
     (c.commands.invariant.came c.requires.opens.0 c.requires.opens.1) in
     never_unread c.run_laws.ensures c.advance.new.self c.args.rules c.requires.opens.0 _ _
-    (choices_of c.commands.plan) c.step.new.chooser _ _ turn.given _ _ _ _ _ u turn.gives.first
+    (plan_choices c.commands.plan) c.step.new.chooser _ _ turn.given _ _ _ _ _ u turn.gives.first
     (none_follow c.step.new.source) turn.steps (c.in-Err-Read.is ∙ ap Err c.in-Err-Read.field-0-is)
 
 pub unreachable-requires-in-Err-Write : goal.unreachable-requires-in-Err-Write
@@ -162,5 +163,5 @@ unreachable-requires-in-Err-Write c =
     let u = advances (goal.at.unreachable-requires-in-Err-Write c).After-advance c.requires.opens.0
     (c.commands.invariant.came c.requires.opens.0 c.requires.opens.1) in
     never_unwritten c.run_laws.ensures c.advance.new.self c.args.rules c.requires.opens.0 _ _
-    (choices_of c.commands.plan) c.step.new.chooser _ _ turn.given _ _ _ _ _ u turn.gives.first
+    (plan_choices c.commands.plan) c.step.new.chooser _ _ turn.given _ _ _ _ _ u turn.gives.first
     (none_follow c.step.new.source) turn.steps (c.in-Err-Write.is ∙ ap Err c.in-Err-Write.field-0-is)

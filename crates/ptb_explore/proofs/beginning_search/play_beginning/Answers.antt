@@ -6,7 +6,7 @@ use Rattle.ptb_machine.specs.Play.{play}
 use Rattle.ptb_machine.specs.Questions.{most_answers}
 use Rattle.ptb_answers.specs.Asked.{answers_in, bounds_in}
 use Rattle.ptb_explore.specs.Explorations.{game_of}
-use Rattle.ptb_explore.specs.Recorders.{choices_of, recorded}
+use Rattle.ptb_explore.specs.Recorders.{recorder_choices, recorded}
 use Rattle.ptb_explore.proofs.WrittenTexts.{on_err_always}
 use Rattle.ptb_explore.proofs.Keep.{kept_same}
 use Rattle.ptb_explore.proofs.Recorded.{given_answers, recorded_len, same_bounds}
@@ -53,7 +53,7 @@ pub returns-clause-copies : goal.returns-clause-copies
 returns-clause-copies c =
     let old = c.args.runner.now in
     let new = c.play_plan.new.self in
-    kept_same old.player old.player old.lines.now old.lines.now old.rules (choices_of new.trial).taken _
+    kept_same old.player old.player old.lines.now old.lines.now old.rules (recorder_choices new.trial).taken _
     new.report.transcript.items _ new.copies.kept.items _ refl refl
     (ap answers_in (c.hand_over.ensures.asked ∙ c.keep_given.ensures.asked) ∙ given_answers new.trial) refl refl
     c.in_ok-play_plan.ensures.copies

@@ -8,7 +8,7 @@ use Rattle.ptb_command.specs.declared.ending.Ending.TheVariants as endings
 use Rattle.ptb_explore.proofs.Recorded.{given_len}
 use Rattle.ptb_explore.specs.MarkedRuns.{states_bounds}
 use Rattle.ptb_explore.specs.PlannedPlays.{PlayEnds}
-use Rattle.ptb_explore.specs.Recorders.{choices_of, given_bounds}
+use Rattle.ptb_explore.specs.Recorders.{recorder_choices, given_bounds}
 use Rattle.ptb_explore.proofs.Mismatches.{if_none_at, none_is}
 use Rattle.ptb_explore.proofs.TakenItems.{stops_outside, stops_over, takes_items}
 use Rattle.ptb_explore.proofs.mismatch.item_mismatch.Goals as goal
@@ -56,7 +56,7 @@ returns-then-eq-clause-mismatch c = λ game most steps shown reads h.
     let list = c.args.list.now in
     let known = stated (goal.at.returns-then-eq-clause-mismatch c).After-eq in
     let is : c.args.ending ≡ endings.BadAnswer = search (rules, c.eq.ensures, c.if-eq.true) in
-    let outside = subst (PlayEnds game (choices_of trial) trial.refused_bound steps shown) is h in
+    let outside = subst (PlayEnds game (recorder_choices trial) trial.refused_bound steps shown) is h in
     let answer : ℤ = (get_or list c.min-taken.result none).answer in
     let answer_fits : FitsSigned w16 answer = search rules in
     let bound_fits : FitsSigned w16 trial.refused_bound = search rules in

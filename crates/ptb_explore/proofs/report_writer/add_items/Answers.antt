@@ -4,7 +4,7 @@ use Rattle.std.proofs.lemmas.List.{length-take-le, take_all}
 use Rattle.ptb_answers.specs.AnswerText.{in_form, item_text}
 use Rattle.std.specs.Prelude.{◌==◌, if◌then◌else◌, codes}
 use Rattle.ptb_answers.specs.declared.form.Marked.{Marked}
-use Rattle.ptb_explore.specs.Begun.{begun, item_of}
+use Rattle.ptb_explore.specs.Begun.{begun, marked_of}
 use Rattle.ptb_explore.specs.ReportText.{asked_items}
 use Rattle.ptb_explore.proofs.HeaderPrefixes.{begins_kept, ends_kept, is_in_form, items_kept, length-items_of}
 use Rattle.ptb_explore.proofs.HeaderPrefixes.{text_added}
@@ -24,7 +24,8 @@ loop-k-preserved c =
     let m : Marked = item_for c.args.form asked k in
     let within : k < length items = omega (arith, c.loop-k-test.true, length-asked_items c.args.form asked) in
     let next : m ≡ get_or items k m = sym (asked_at c.args.form asked k _ m c.loop-k-test.true) in
-    let same : item_of (record { answer = _; bound = c.bound_in-bound.result; end = length c.add_item.new.text }) ≡ m =
+    let same : marked_of (record { answer = _; bound = c.bound_in-bound.result; end = length c.add_item.new.text })
+    ≡ m =
     is_in_form c.args.form (question_at asked k).answer _ (question_at asked k).bound _ c.bound_in-bound.result
     (search rules) (search rules) c.bound_in-bound.ensures in
     let text = text_added items k m within next c.loop-k.text c.add_item.new.text c.loop-k.invariant.text

@@ -8,7 +8,7 @@ use Rattle.std.proofs.lemmas.List.{map-append}
 use Rattle.ptb_answers.specs.Choices.{with_answers}
 use Rattle.ptb_answers.specs.declared.asked.Asked.{Asked}
 use Rattle.ptb_answers.specs.Asked.{answers_in}
-use Rattle.ptb_explore.specs.Recorders.{choices_of, given_bounds, recorded}
+use Rattle.ptb_explore.specs.Recorders.{recorder_choices, given_bounds, recorded}
 use Rattle.ptb_explore.proofs.AskedLists.{answer_at}
 use Rattle.ptb_explore.proofs.Given.{answers_stay, grown_after_plan, grown_in_plan, held}
 use Rattle.ptb_explore.proofs.Recorded.{given_len, recorded_len}
@@ -95,7 +95,7 @@ returns-else-answer-bound-clause-grown c =
     omega (arith, c.if-place-len.true, c.len.ensures, self.asked.ok.0) in
     let x : Asked = record { answer = to_z w16 (of_z w16 q.answer); bound = to_z w16 (of_z w16 c.args.bound) } in
     grown_in_plan self.asked.items self.given x q within (to_z-of_z fits ∙ ap (λ (y : Asked). y.answer) c.index.ensures)
-    self.planned ∙ ap (λ (n : ℤ). with_answers (x.answer ∷ []) (n ∷ []) (choices_of self)) (to_z-of_z bound_fits)
+    self.planned ∙ ap (λ (n : ℤ). with_answers (x.answer ∷ []) (n ∷ []) (recorder_choices self)) (to_z-of_z bound_fits)
 
 pub returns-in-Ok-clause-grown : goal.returns-in-Ok-clause-grown
 returns-in-Ok-clause-grown c =
@@ -106,4 +106,4 @@ returns-in-Ok-clause-grown c =
     omega (arith, c.if-place-len.false, c.len.ensures, self.bounded, self.asked.ok.0) in
     ap (held self.planned (self.given + 1)) c.in-Ok.ensures.items
     ∙ grown_after_plan self.asked.items self.given x all self.planned (omega (arith, all, self.within, self.asked.ok.0))
-    ∙ ap (λ (n : ℤ). with_answers (pos 1 ∷ []) (n ∷ []) (choices_of self)) (to_z-of_z bound_fits)
+    ∙ ap (λ (n : ℤ). with_answers (pos 1 ∷ []) (n ∷ []) (recorder_choices self)) (to_z-of_z bound_fits)

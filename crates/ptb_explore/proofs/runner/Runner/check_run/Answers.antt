@@ -9,7 +9,7 @@ use Rattle.ptb_explore.specs.Copies.{more_played, play_limit}
 use Rattle.ptb_explore.specs.Explorations.{game_of}
 use Rattle.ptb_explore.specs.MarkedRuns.{states_bounds}
 use Rattle.ptb_explore.specs.Mismatch.{IsRunMismatch}
-use Rattle.ptb_explore.specs.Recorders.{choices_of, given_bounds, recorded}
+use Rattle.ptb_explore.specs.Recorders.{recorder_choices, given_bounds, recorded}
 use Rattle.ptb_explore.specs.RunTree.{IsRun}
 use Rattle.ptb_explore.proofs.Exits.{ok_no_err, same_reason}
 use Rattle.ptb_explore.proofs.Keep.{kept_same}
@@ -48,7 +48,7 @@ returns c =
       answers = ap answers_in c.hand_over.ensures.asked ∙ whole.1 ∙ are;
       bounds = ap bounds_in c.hand_over.ensures.asked ∙ all_bounds game new (whole.2 ∙ sym (ap (bounds game) whole.1))
           ∙ their;
-      copies = kept_same old.player old.player old.lines.now old.lines.now old.rules (choices_of new).taken
+      copies = kept_same old.player old.player old.lines.now old.lines.now old.rules (recorder_choices new).taken
           (answers_of c.args.list.now) shown _ _ _
           refl refl (sym (all_given game new (whole.2 ∙ sym (ap (bounds game) whole.1)) ∙ whole.1 ∙ are)) refl refl
           c.in_ok-ending.ensures.copies;

@@ -5,7 +5,7 @@ use Rattle.ptb_devices.specs.Sources.{LineList}
 use Rattle.ptb_machine.specs.Play.{play}
 use Rattle.ptb_explore.specs.Copies.{AreCopies}
 use Rattle.ptb_explore.specs.PlannedPlays.{PlayEnds}
-use Rattle.ptb_explore.specs.Recorders.{choices_of, recorded}
+use Rattle.ptb_explore.specs.Recorders.{recorder_choices, recorded}
 use Rattle.ptb_explore.proofs.Recorded.{fresh_bounds}
 use Rattle.ptb_explore.proofs.RunPrefix.{run_prefix_at_first}
 use Rattle.ptb_explore.proofs.Runners.{reported}
@@ -16,11 +16,11 @@ pub play_on-requires-clause-run_prefix : goal.play_on-requires-clause-run_prefix
 play_on-requires-clause-run_prefix c =
     let trial = c.args.self.now.trial in
     let input = c.args.self.now.lines.now in
-    let taken : (choices_of trial).taken ≡ [] =
+    let taken : (recorder_choices trial).taken ≡ [] =
     ap (λ (bs : List ℤ). take (length bs) (recorded trial)) (fresh_bounds trial c.requires.fresh) in
-    let kept : (choices_of trial).kept ≡ Some [] = ap Some (fresh_bounds trial c.requires.fresh) in
+    let kept : (recorder_choices trial).kept ≡ Some [] = ap Some (fresh_bounds trial c.requires.fresh) in
     rw (c.new-source.ensures, c.new-screen.ensures)
-    (run_prefix_at_first c.args.self.now.player input c.args.self.now.rules (choices_of trial)
+    (run_prefix_at_first c.args.self.now.player input c.args.self.now.rules (recorder_choices trial)
     c.in_ok-machine.machine taken kept (c.in_ok-machine.ensures.first input c.args.self.now.rules.choose))
 
 pub returns-clause-plan : goal.returns-clause-plan
@@ -29,7 +29,7 @@ returns-clause-plan c = c.in_ok-ending.ensures.plan ∙ fresh_plan c.args.self.n
 pub returns-clause-ends : goal.returns-clause-ends
 returns-clause-ends c =
     let p = c.args.self.now.player in
-    let new = choices_of c.play_on.new.self.trial in
+    let new = recorder_choices c.play_on.new.self.trial in
     let lines : c.new-source.result.lines ≡ c.args.self.now.lines.now =
     ap (λ (s : LineList). s.lines) c.new-source.ensures in
     let ends = subst (λ (ls : List (List ℕ)). PlayEnds (play p ls c.args.self.now.rules) new
@@ -39,7 +39,7 @@ returns-clause-ends c =
 
 pub returns-clause-copies : goal.returns-clause-copies
 returns-clause-copies c =
-    let new = choices_of c.play_on.new.self.trial in
+    let new = recorder_choices c.play_on.new.self.trial in
     let lines : c.new-source.result.lines ≡ c.args.self.now.lines.now =
     ap (λ (s : LineList). s.lines) c.new-source.ensures in
     let copies = subst (λ (ls : List (List ℕ)). AreCopies c.args.self.now.player ls c.args.self.now.rules new.taken

@@ -8,7 +8,7 @@ use Rattle.ptb_answers.specs.Outcome.{Answers}
 use Rattle.ptb_explore.proofs.Recorded.{given_len, recorded_len}
 use Rattle.ptb_explore.specs.Copies.{AreTakenBy, StandsAt, taken_choices}
 use Rattle.ptb_explore.specs.PlannedPlays.{IsRunPrefix, PlayEnds}
-use Rattle.ptb_explore.specs.Recorders.{RefusedByPlan, choices_of, given_bounds, recorded}
+use Rattle.ptb_explore.specs.Recorders.{RefusedByPlan, recorder_choices, given_bounds, recorded}
 use Rattle.ptb_explore.specs.declared.recorder.Recorder.{Recorder}
 use Rattle.ptb_explore.proofs.Limits.{taken_by}
 use Rattle.ptb_explore.proofs.Keep.{kept_longer, kept_more, kept_same}
@@ -19,26 +19,29 @@ use Rattle.ptb_explore.proofs.runner.Runner.play_on.Goals as goal
 use Rattle.ptb_explore.proofs.runner.Runner.play_on.Goals.{After-advance, In-Ok-Some}
 
 -- as many answers were taken as there are bounds
-taken_length : (r : Recorder) → length (choices_of r).taken ≡ length (given_bounds r)
+taken_length : (r : Recorder) → length (recorder_choices r).taken ≡ length (given_bounds r)
 taken_length r = length-take-le (length (given_bounds r)) (recorded r)
     (omega (arith, r.bounded, (recorded_len r), (given_len r)))
 
 -- the machine stands where the play is, after it advanced
 advances : (c : After-advance)
-    → IsRunPrefix c.advance.new.self c.args.source.now.lines c.args.self.now.rules (choices_of c.loop-ending.self.trial)
+    → IsRunPrefix c.advance.new.self c.args.source.now.lines c.args.self.now.rules
+    (recorder_choices c.loop-ending.self.trial)
     c.loop-ending.screen (drop c.loop-ending.source.taken c.loop-ending.source.lines) c.advance.new.machine
 advances c =
     let turns = c.advance.ensures.turns in
     advanced c.run_laws.ensures c.loop-ending.self.player c.args.source.now.lines c.args.self.now.rules
-    c.advance.new.self turns.0 c.loop-ending.machine c.advance.new.machine (choices_of c.loop-ending.self.trial)
+    c.advance.new.self turns.0 c.loop-ending.machine c.advance.new.machine (recorder_choices c.loop-ending.self.trial)
     c.loop-ending.screen _ c.advance.ensures.program c.loop-ending.invariant.run_prefix turns.1.1
 
 -- its plan stays, and it ends as the step says
 ended : (c : In-Ok-Some)
-    → IsRunPrefix c.advance.new.self c.args.source.now.lines c.args.self.now.rules (choices_of c.loop-ending.self.trial)
+    → IsRunPrefix c.advance.new.self c.args.source.now.lines c.args.self.now.rules
+    (recorder_choices c.loop-ending.self.trial)
     c.loop-ending.screen (drop c.loop-ending.source.taken c.loop-ending.source.lines) c.advance.new.machine
-    → ((choices_of c.step.new.chooser).plan ≡ (choices_of c.loop-ending.self.trial).plan)
-    × PlayEnds (play c.advance.new.self c.args.source.now.lines c.args.self.now.rules) (choices_of c.step.new.chooser)
+    → ((recorder_choices c.step.new.chooser).plan ≡ (recorder_choices c.loop-ending.self.trial).plan)
+    × PlayEnds (play c.advance.new.self c.args.source.now.lines c.args.self.now.rules)
+    (recorder_choices c.step.new.chooser)
     c.step.new.chooser.refused_bound c.step.new.machine.steps c.step.new.screen c.in-Ok-Some.ending
 ended c u =
     let turn = c.step.ensures.step.turn in
@@ -57,8 +60,8 @@ loop-ending-preserved c =
     let input = c.args.source.now.lines in
     let is : c.step.result ≡ Ok None = c.in-Ok-None.is ∙ ap Ok c.in-Ok-None.field-0-is in
     let turn = c.step.ensures.step.turn in
-    let old = choices_of l.self.trial in
-    let new = choices_of c.step.new.chooser in
+    let old = recorder_choices l.self.trial in
+    let new = recorder_choices c.step.new.chooser in
     let u = advances (goal.at.loop-ending-preserved c).After-advance in
     let x = step_goes c.run_laws.ensures c.advance.new.self input c.args.self.now.rules _ _ _ _ _ _ turn.given _ _ _ _ _
     _ is u turn.gives.first (none_follow c.step.new.source) turn.steps in
@@ -134,8 +137,8 @@ returns-in-Ok-Some-clause-copies c =
     let i = l.invariant in
     let input = c.args.source.now.lines in
     let turn = c.step.ensures.step.turn in
-    let old = choices_of l.self.trial in
-    let new = choices_of c.step.new.chooser in
+    let old = recorder_choices l.self.trial in
+    let new = recorder_choices c.step.new.chooser in
     let u = advances (goal.at.returns-in-Ok-Some-clause-copies c).After-advance in
     let more = step_extends c.advance.new.self input c.args.self.now.rules _ _ old new _ _ turn.given _ _ _ _ _ u
     (Some c.in-Ok-Some.ending) _ (c.in-Ok-Some.is ∙ ap Ok (c.in-Ok-Some.field-0-is
@@ -151,6 +154,6 @@ memory_refusal-requires c =
     let u = advances (goal.at.memory_refusal-requires c).After-advance in
     let going : c.advance.new.machine.spent ≡ false = c.advance.ensures.spent ∙ c.loop-ending.invariant.unspent in
     only_memory c.run_laws.ensures c.advance.new.self c.args.source.now.lines c.args.self.now.rules (RefusedByPlan
-    (choices_of c.step.new.chooser) c.step.new.chooser.refused_bound) _ _ _ _ _ _ turn.given _ _ _ _ _ u
+    (recorder_choices c.step.new.chooser) c.step.new.chooser.refused_bound) _ _ _ _ _ _ turn.given _ _ _ _ _ u
     turn.gives.first (none_follow c.step.new.source) turn.steps
     (λ over. false≢true (sym going ∙ c.step.ensures.step.spent.0 over)) c.in-Err.fault c.in-Err.is

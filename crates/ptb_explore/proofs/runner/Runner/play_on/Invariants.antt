@@ -3,22 +3,22 @@ use Rattle.std.proofs.Common.{◌≡◌, ◌≤◌, ◌-◌, length, drop, false
 use Rattle.ptb_machine.specs.Steps.{FitsProgram}
 use Rattle.ptb_explore.specs.Copies.{AreCopies}
 use Rattle.ptb_explore.specs.PlannedPlays.{IsRunPrefix}
-use Rattle.ptb_explore.specs.Recorders.{choices_of}
+use Rattle.ptb_explore.specs.Recorders.{recorder_choices}
 use Rattle.ptb_explore.proofs.runner.Runner.play_on.Given as goal
 
 abbrev pub invariant-loop-ending : goal.invariant-loop-ending
 invariant-loop-ending l = record {
   same : l.self ≡ record l.fn.self { trial = l.self.trial; copies = l.self.copies };
   program : l.self.player ≡ l.fn.self.player;
-  plan : (choices_of l.self.trial).plan ≡ (choices_of l.fn.self.trial).plan;
+  plan : (recorder_choices l.self.trial).plan ≡ (recorder_choices l.fn.self.trial).plan;
   same_lines : l.source.lines ≡ l.fn.source.lines;
   within : l.source.taken ≤ length l.fn.source.lines;
   unspent : l.machine.spent ≡ false;
   fits : FitsProgram l.self.player l.machine;
-  run_prefix : IsRunPrefix l.self.player l.fn.source.lines l.fn.self.rules (choices_of l.self.trial) l.screen
+  run_prefix : IsRunPrefix l.self.player l.fn.source.lines l.fn.self.rules (recorder_choices l.self.trial) l.screen
       (drop l.source.taken l.source.lines) l.machine;
   copies : AreCopies l.self.player l.fn.source.lines l.fn.self.rules
-      (choices_of l.self.trial).taken l.screen l.self.copies.kept.items;
+      (recorder_choices l.self.trial).taken l.screen l.self.copies.kept.items;
 }
 
 -- each step is below the rules

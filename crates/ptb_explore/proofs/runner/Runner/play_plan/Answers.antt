@@ -8,7 +8,7 @@ use Rattle.ptb_machine.specs.Play.{Finish}
 use Rattle.ptb_explore.specs.declared.runner.Runner.{Runner}
 use Rattle.ptb_explore.specs.Copies.{last_steps, more_played, play_limit}
 use Rattle.ptb_explore.specs.PlannedPlays.{PlayEnds}
-use Rattle.ptb_explore.specs.Recorders.{choices_of}
+use Rattle.ptb_explore.specs.Recorders.{recorder_choices}
 use Rattle.ptb_explore.proofs.RestoredCopies.{agrees_same, prefix_of_same}
 use Rattle.ptb_explore.proofs.Keep.{kept_same}
 use Rattle.ptb_explore.proofs.Runners.{copies_stay, counted, game_is, still_same}
@@ -39,7 +39,7 @@ returns-clause-ends c =
     let game = game_is old.player back.player old.lines.now c.go_back-machine.new.source.lines old.rules back.rules
     (ap (λ (r : Runner). r.player) same) lines (ap (λ (r : Runner). r.rules) same) in
     let ends = subst (λ (g : Answers → Outcome Finish (List ℕ)). PlayEnds g
-    (choices_of trial) trial.refused_bound steps shown c.in_ok-self.field-0) game c.in_ok-self.ensures.ends in
+    (recorder_choices trial) trial.refused_bound steps shown c.in_ok-self.field-0) game c.in_ok-self.ensures.ends in
     rw (c.into_vec.ensures, c.steps-steps.ensures, c.deref.ensures) ends
 
 pub returns-clause-copies : goal.returns-clause-copies
@@ -51,7 +51,7 @@ returns-clause-copies c =
     c.go_back-machine.ensures.same_lines ∙ ap (λ (s : LineList). s.lines) c.new-source.ensures in
     copies_stay back.player old.player c.go_back-machine.new.source.lines old.lines.now back.rules old.rules
     (sym (ap (λ (r : Runner). r.player) same)) (sym lines) (sym (ap (λ (r : Runner). r.rules) same))
-    (choices_of c.play_counted-ending.new.self.trial).taken _ c.play_counted-ending.new.screen _
+    (recorder_choices c.play_counted-ending.new.self.trial).taken _ c.play_counted-ending.new.screen _
     c.play_counted-ending.new.self.copies.kept.items _
     refl c.into_vec.ensures (ap (λ k. k.items) c.give_back.ensures) c.in_ok-self.ensures.copies
 

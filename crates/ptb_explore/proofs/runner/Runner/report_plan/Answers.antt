@@ -6,7 +6,7 @@ use Rattle.ptb_answers.specs.Asked.{answers_in}
 use Rattle.ptb_machine.specs.Play.{play}
 use Rattle.ptb_machine.specs.Questions.{most_answers}
 use Rattle.ptb_explore.specs.Plans.{PlanEndsWith}
-use Rattle.ptb_explore.specs.Recorders.{choices_of, given_bounds, recorded}
+use Rattle.ptb_explore.specs.Recorders.{recorder_choices, given_bounds, recorded}
 use Rattle.ptb_explore.proofs.WrittenTexts.{on_err_always}
 use Rattle.ptb_explore.proofs.Keep.{kept_same}
 use Rattle.ptb_explore.proofs.Runners.{changed}
@@ -45,7 +45,7 @@ returns-clause-copies c =
     let old = c.args.self.now in
     let new = c.play_plan.new.self in
     let run = ended c in
-    kept_same old.player old.player old.lines.now old.lines.now old.rules (choices_of new.trial).taken _
+    kept_same old.player old.player old.lines.now old.lines.now old.rules (recorder_choices new.trial).taken _
     new.report.transcript.items _ new.copies.kept.items _ refl refl (ap answers_in c.hand_over.ensures.asked
     ∙ sym (all_given (play old.player old.lines.now old.rules) new.trial run.bounds_are)) refl refl
     c.in_ok-play_plan.ensures.copies
