@@ -8,8 +8,8 @@ ghost use Rattle.ptb_text.specs.Words.{spelling_in_front, words, IsCommand, IsFu
 
 use crate::word::{Table, Word};
 
-// All that looks for a command's word is inlined: a result that a call passes in memory is read back
-// late.
+// What looks for a word is inlined in one function, `table_word_at`: a result that a call passes in memory
+// is read back late.
 
 // what follows a word that is cut
 const PERIOD: u8 = b'.';
@@ -102,9 +102,9 @@ fn function_at(text: &[u8], place: usize) -> Option<(Word, usize)>
     }
 }
 
-// The first word of the table that is at `place`, and the place after it. Each caller names its
-// table, so the choice costs nothing where this is inlined.
-#[inline(always)]
+// The first word of the table that is at `place`, and the place after it. Not inlined, so that what takes
+// words stays small; a byte that continues a word was seen before.
+#[inline(never)]
 pub fn table_word_at(text: &[u8], place: usize, table: Table) -> Option<(Word, usize)>
     requires { place < length text.now }
     ensures value { FindsWord (words table) text.now place result }
