@@ -9,14 +9,14 @@ from stage import ROOT
 
 # The tests, and after how many reports memory must have been refused at least once.
 TESTS = [
-    ("ptb_language_tests", "texts::refused_growths_are_answered", set()),
-    ("ptb_language_tests", "texts::refused_lines_are_entered_again", set()),
-    ("ptb_language_tests", "expressions::refused_array", set()),
-    ("ptb_language_tests", "expressions::copied_values", set()),
-    ("ptb_language_tests", "expressions::refused_answers", set()),
-    ("ptb_language_tests", "naturals::refused_numbers", set()),
-    ("ptb_language_tests", "naturals::refused_decimals", set()),
-    ("ptb_language_tests", "fractions::refused_fractions", set()),
+    ("ptb_language_tests", "tests::texts::refused_growths_are_answered", set()),
+    ("ptb_language_tests", "tests::texts::refused_lines_are_entered_again", set()),
+    ("ptb_language_tests", "tests::expressions::refused_array", set()),
+    ("ptb_language_tests", "tests::expressions::copied_values", set()),
+    ("ptb_language_tests", "tests::expressions::refused_answers", set()),
+    ("ptb_language_tests", "tests::naturals::refused_numbers", set()),
+    ("ptb_language_tests", "tests::naturals::refused_decimals", set()),
+    ("ptb_language_tests", "tests::fractions::refused_fractions", set()),
     ("ptb_tests", "chances::refused_tables_write_nothing", set()),
     ("ptb_machine_tests", "tests::commands::first_registers", set()),
     ("ptb_machine_tests", "tests::commands::copied_registers", set()),

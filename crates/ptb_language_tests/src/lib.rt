@@ -9,20 +9,4 @@
 #![tactic(auto)]
 
 #[cfg(test)]
-mod cursor;
-#[cfg(test)]
-mod decimals;
-#[cfg(test)]
-mod expressions;
-#[cfg(test)]
-mod fractions;
-#[cfg(test)]
-mod naturals;
-#[cfg(test)]
-mod output;
-#[cfg(test)]
-mod reports;
-#[cfg(test)]
-mod shared;
-#[cfg(test)]
-mod texts;
+mod tests;

@@ -1,7 +1,7 @@
 // This file tests the buffer before a writer: what waits, what is written at once, and what a
 // writer has where it fails.
 
-use crate::shared::expect_same;
+use crate::tests::shared::expect_same;
 use ptb_text::{ByteSink, Device, DeviceFault, OutputBuffer};
 use std::alloc::Global;
 
@@ -37,15 +37,28 @@ fn taken(alloc: Global, count: usize, all: bool) -> Result<Vec<u8>, DeviceFault>
     Ok(taken)
 }
 
+// Whether these bytes are what a writer has then.
+fn is_taken(alloc: Global, count: usize, all: bool, due: &str) -> bool {
+    match taken(alloc, count, all) {
+        Ok(found) => found.as_slice() == due.as_bytes(),
+        Err(_) => false,
+    }
+}
+
 // Bytes wait until there is no room for more, and are all written in the end.
 #[test]
 fn bytes_wait(rt: HostRuntime) {
-    for (place, &(_, some, all)) in PUTS.iter().enumerate() {
-        for (due, last) in [(some, false), (all, true)] {
-            let found = taken(rt.alloc(), place.saturating_add(1), last);
-            let same = found.is_ok_and(|found| found.as_slice() == due.as_bytes());
-            expect_same(&rt, due, (place, last, same), (place, last, true));
-        }
+    let mut count: usize = 0;
+    for &(_, some, all) in PUTS {
+        count = count.saturating_add(1);
+        let is_waiting = is_taken(rt.alloc(), count, false, some);
+        let is_finished = is_taken(rt.alloc(), count, true, all);
+        expect_same(
+            &rt,
+            all,
+            (count, is_waiting, is_finished),
+            (count, true, true),
+        );
     }
 }
 
@@ -59,18 +72,25 @@ fn write_to<T: ByteSink + Drop>(sink: T) -> Result<(), DeviceFault> {
     buffer.finish(&mut out, &[b"l", b"m"])
 }
 
-// A writer that has no room for all of them fails, and has the first of them.
+// Whether a writer with this room has the first of them, and fails if it has no room for all.
+fn is_filled(room: &mut [u8]) -> bool {
+    let wanted = if room.len() < ALL.len() {
+        Err(DeviceFault::Write)
+    } else {
+        Ok(())
+    };
+    write_to(&mut *room) == wanted && ALL.starts_with(room)
+}
+
 #[test]
 fn writer_without_room(rt: HostRuntime) {
     for size in 0..=ALL.len() {
         let mut room = [b'.'; 13];
-        let (exact, _) = room.split_at_mut(size);
-        let wanted = if size < ALL.len() {
-            Err(DeviceFault::Write)
-        } else {
-            Ok(())
-        };
-        let found = (write_to(&mut *exact), ALL.starts_with(exact));
-        expect_same(&rt, "in pieces", found, (wanted, true));
+        expect_same(
+            &rt,
+            "in pieces",
+            (size, is_filled(&mut room[..size])),
+            (size, true),
+        );
     }
 }
