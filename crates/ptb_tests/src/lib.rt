@@ -6,30 +6,4 @@
 #![tactic(auto)]
 
 #[cfg(test)]
-mod beginnings;
-#[cfg(test)]
-mod chances;
-#[cfg(test)]
-mod command_line;
-#[cfg(test)]
-mod copies;
-#[cfg(test)]
-mod flushing_writer;
-#[cfg(test)]
-mod listing;
-#[cfg(test)]
-mod mismatches;
-#[cfg(test)]
-mod notes;
-#[cfg(test)]
-mod plain_runs;
-#[cfg(test)]
-mod refused_lists;
-#[cfg(test)]
-mod reports;
-#[cfg(test)]
-mod samples;
-#[cfg(test)]
-mod shared;
-#[cfg(test)]
-mod stops;
+mod tests;

@@ -1,6 +1,6 @@
 // This file tests at which line a limit stops a run, alone and as a request.
 
-use crate::shared::{expect_same, loaded, plain_rules};
+use crate::tests::shared::{expect_same, loaded, plain_rules};
 use ptb_machine::{Ending, RunEnd, RunFault};
 use ptb_options::{DEFAULT_MEMORY, Mode, Request};
 use ptb_serve::{Outcome, run_plain_to_end, run_seeded_to_end, serve};

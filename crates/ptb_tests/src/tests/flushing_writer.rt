@@ -1,6 +1,6 @@
 // This file tests the writer that flushes, over one whose flush fails at a call.
 
-use crate::shared::expect_same;
+use crate::tests::shared::expect_same;
 use ptb_serve::FlushingWriter;
 use ptb_text::{ByteSink, DeviceFault, Write};
 use std::io;
