@@ -1,12 +1,12 @@
 // This file tests the listing of all runs through `serve`.
 
 use crate::tests::{
-    FAILINGS, Failing, Script, Sink, expect_reply, expect_same, make_sink, reply_on_endless_input,
-    reply_to, rules_of,
+    FAILINGS, Failing, Script, Sink, expect_reply, expect_same, make_sink, outcome_of,
+    reply_on_endless_input, reply_to, rules_of,
 };
 use ptb_explore::{Form, Marked};
 use ptb_options::{DEFAULT_MEMORY, DEFAULT_STEPS, MarkedAnswers, Mode, Request};
-use ptb_serve::{Note, Outcome, serve};
+use ptb_serve::{Note, Outcome};
 use ptb_text::Device;
 use std::alloc::{AllocError, Global};
 use std::process::Abort;
@@ -28,60 +28,36 @@ struct Asked<'a> {
 }
 
 // Answers with and without their bounds, for lists that are constants.
-const ONE: Marked = Marked {
-    answer: 1,
-    bound: None,
-};
+macro_rules! marked {
+    ($answer:literal, $bound:expr) => {
+        Marked {
+            answer: $answer,
+            bound: $bound,
+        }
+    };
+}
 
-const TWO: Marked = Marked {
-    answer: 2,
-    bound: None,
-};
+const ONE: Marked = marked!(1, None);
 
-const THREE: Marked = Marked {
-    answer: 3,
-    bound: None,
-};
+const ONE_OF_1: Marked = marked!(1, Some(1));
 
-const FOUR: Marked = Marked {
-    answer: 4,
-    bound: None,
-};
+const ONE_OF_2: Marked = marked!(1, Some(2));
 
-const GREATEST: Marked = Marked {
-    answer: 32767,
-    bound: None,
-};
+const ONE_OF_3: Marked = marked!(1, Some(3));
 
-const ONE_OF_3: Marked = Marked {
-    answer: 1,
-    bound: Some(3),
-};
+const TWO: Marked = marked!(2, None);
 
-const ONE_OF_1: Marked = Marked {
-    answer: 1,
-    bound: Some(1),
-};
+const TWO_OF_2: Marked = marked!(2, Some(2));
 
-const ONE_OF_2: Marked = Marked {
-    answer: 1,
-    bound: Some(2),
-};
+const TWO_OF_3: Marked = marked!(2, Some(3));
 
-const TWO_OF_2: Marked = Marked {
-    answer: 2,
-    bound: Some(2),
-};
+const THREE: Marked = marked!(3, None);
 
-const TWO_OF_3: Marked = Marked {
-    answer: 2,
-    bound: Some(3),
-};
+const THREE_OF_3: Marked = marked!(3, Some(3));
 
-const THREE_OF_3: Marked = Marked {
-    answer: 3,
-    bound: Some(3),
-};
+const FOUR: Marked = marked!(4, None);
+
+const GREATEST: Marked = marked!(32767, None);
 
 // All runs of a program without input, in form 1, by a request that gives neither steps nor a bound.
 const ALL: Asked<'static> = Asked {
@@ -104,6 +80,13 @@ macro_rules! all_of {
             $($field: $value,)*
             ..ALL
         }
+    };
+}
+
+// Requests with what they list, and the fields that are given after that.
+macro_rules! listings {
+    ($(($program:expr, $text:expr $(, $field:ident = $value:expr)*)),* $(,)?) => {
+        &[$((all_of!($program $(, $field = $value)*), $text)),*]
     };
 }
 
@@ -132,10 +115,7 @@ fn request_of(alloc: Global, asked: &Asked<'_>) -> Result<Request, AllocError> {
 // Serves a listing with this writer.
 fn served_to(alloc: Global, asked: &Asked<'_>, sink: &mut Sink) -> Result<Outcome, AllocError> {
     let request = request_of(alloc, asked)?;
-    let mut program = Device::new(asked.program);
-    let mut input = Device::new(asked.input);
-    let mut out = Device::new(sink);
-    Ok(serve(alloc, &request, &mut program, &mut input, &mut out))
+    Ok(outcome_of(alloc, &request, asked.program, asked.input, sink))
 }
 
 // The result of a listing with a writer that takes some bytes a call.
@@ -208,29 +188,21 @@ fn expect_listings(
     Ok(())
 }
 
-const ALL_RUNS: Listings<'static> = &[
-    (ALL, b"RUN none END 0 0\n\n"),
-    (all_of!(ONE_ROLL), ONE_ROLL_TEXT),
-    (all_of!(TWO_ROLLS), TWO_ROLLS_TEXT),
-    (all_of!(ROLL_AFTER_IF), ROLL_AFTER_IF_TEXT),
-    (all_of!(FAULTY), FAULTY_TEXT),
-    (all_of!(b"10 GOTO 10", steps = 5), b"RUN none LIMIT 5 0\n\n"),
-    (
-        all_of!(b"10 INPUT A;PRINT A", input = b"RND(2)\n"),
-        b"RUN 1 END 2 16\nA:RND(2)\n     1\n\nRUN 2 END 2 16\nA:RND(2)\n     2\n\n",
-    ),
-    (all_of!(b"10 INPUT A"), b"RUN none NOINPUT 1 2\nA:\n"),
-    (
-        all_of!(b"10 GOSUB 10"),
-        b"RUN none SORRY 257 19\nSORRY\n10 GOSUB 10?\n\n",
-    ),
-    (
-        all_of!(b"10 F.I=1TO1;GOS.10"),
-        b"RUN none SORRY 257 26\nSORRY\n10 F.I=1TO1?;GOS.10\n\n",
-    ),
-    (all_of!(ROLLED_INDEX, input = b")\n5\n"), ROLLED_INDEX_TEXT),
-    (all_of!(LIMITED, steps = 1), LIMITED_TEXT),
-];
+const ALL_RUNS: Listings<'static> = listings! {
+    (b"", b"RUN none END 0 0\n\n"),
+    (ONE_ROLL, ONE_ROLL_TEXT),
+    (TWO_ROLLS, TWO_ROLLS_TEXT),
+    (ROLL_AFTER_IF, ROLL_AFTER_IF_TEXT),
+    (FAULTY, FAULTY_TEXT),
+    (b"10 GOTO 10", b"RUN none LIMIT 5 0\n\n", steps = 5),
+    (b"10 INPUT A;PRINT A", b"RUN 1 END 2 16\nA:RND(2)\n     1\n\nRUN 2 END 2 16\nA:RND(2)\n     2\n\n",
+     input = b"RND(2)\n"),
+    (b"10 INPUT A", b"RUN none NOINPUT 1 2\nA:\n"),
+    (b"10 GOSUB 10", b"RUN none SORRY 257 19\nSORRY\n10 GOSUB 10?\n\n"),
+    (b"10 F.I=1TO1;GOS.10", b"RUN none SORRY 257 26\nSORRY\n10 F.I=1TO1?;GOS.10\n\n"),
+    (ROLLED_INDEX, ROLLED_INDEX_TEXT, input = b")\n5\n"),
+    (LIMITED, LIMITED_TEXT, steps = 1),
+};
 
 // Programs with what their listing of all runs is.
 #[test]
@@ -239,45 +211,16 @@ fn all_runs(rt: HostRuntime) -> Result<(), Fail> {
     Ok(())
 }
 
-// A program that takes an answer from 1 to 2 instead of a line.
-const NO_LINE: Asked<'static> = all_of!(b"10 INPUT A;PRINT A", choose = Some(2));
-
-const RUNS_WITHOUT_LINES: Listings<'static> = &[
-    (
-        NO_LINE,
-        b"RUN 1 END 2 11\nA:1\n     1\n\nRUN 2 END 2 11\nA:2\n     2\n\n",
-    ),
-    (
-        Asked {
-            after: Some(&[ONE]),
-            ..NO_LINE
-        },
-        b"RUN 2 END 2 11\nA:2\n     2\n\n",
-    ),
-    (
-        Asked {
-            first: Some(1),
-            ..NO_LINE
-        },
-        b"RUN 1 END 2 11\nA:1\n     1\n\n",
-    ),
-    (
-        Asked {
-            input: b")\n",
-            ..NO_LINE
-        },
-        b"RUN 1 END 2 21\nA:)\nWHAT?\nA:1\n     1\n\n\
-RUN 2 END 2 21\nA:)\nWHAT?\nA:2\n     2\n\n",
-    ),
-    (
-        Asked {
-            program: b"10 INPUT @(RND(2)-1)",
-            ..NO_LINE
-        },
-        b"RUN 1,1 END 1 14\n@(RND(2)-1):1\n\nRUN 1,2 END 1 14\n@(RND(2)-1):2\n\n\
-RUN 2,1 END 1 14\n@(RND(2)-1):1\n\nRUN 2,2 END 1 14\n@(RND(2)-1):2\n\n",
-    ),
-];
+const RUNS_WITHOUT_LINES: Listings<'static> = listings! {
+    (b"10 INPUT A;PRINT A", b"RUN 1 END 2 11\nA:1\n     1\n\nRUN 2 END 2 11\nA:2\n     2\n\n", choose = Some(2)),
+    (b"10 INPUT A;PRINT A", b"RUN 2 END 2 11\nA:2\n     2\n\n", choose = Some(2), after = Some(&[ONE])),
+    (b"10 INPUT A;PRINT A", b"RUN 1 END 2 11\nA:1\n     1\n\n", choose = Some(2), first = Some(1)),
+    (b"10 INPUT A;PRINT A", b"RUN 1 END 2 21\nA:)\nWHAT?\nA:1\n     1\n\nRUN 2 END 2 21\nA:)\nWHAT?\nA:2\n     2\n\n",
+     choose = Some(2), input = b")\n"),
+    (b"10 INPUT @(RND(2)-1)",
+     b"RUN 1,1 END 1 14\n@(RND(2)-1):1\n\nRUN 1,2 END 1 14\n@(RND(2)-1):2\n\n\
+RUN 2,1 END 1 14\n@(RND(2)-1):1\n\nRUN 2,2 END 1 14\n@(RND(2)-1):2\n\n", choose = Some(2)),
+};
 
 // Where no line is left each answer up to the bound gives a run.
 #[test]
@@ -305,45 +248,21 @@ fn most_answers(rt: HostRuntime) -> Result<(), Fail> {
     Ok(())
 }
 
-// Programs, the run after which a listing begins, how many reports it has at most, and its text.
-const RUNS_AFTER_A_RUN: &[(&[u8], Option<&[Marked]>, Option<u64>, &[u8])] = &[
-    (
-        TWO_ROLLS,
-        Some(&[ONE, ONE]),
-        Some(2),
-        b"RUN 1,2 END 1 7\n     2\n\nRUN 2,1 END 1 7\n     2\n\n",
-    ),
-    (
-        TWO_ROLLS,
-        None,
-        Some(2),
-        b"RUN 1,1 END 1 7\n     1\n\nRUN 1,2 END 1 7\n     2\n\n",
-    ),
-    (TWO_ROLLS, None, Some(4), TWO_ROLLS_TEXT),
-    (TWO_ROLLS, None, Some(1_000_000_000), TWO_ROLLS_TEXT),
-    (
-        ROLL_AFTER_IF,
-        Some(&[TWO, ONE]),
-        None,
-        b"RUN 2,2 END 4 7\n     2\n\nRUN 2,3 END 4 7\n     3\n\n",
-    ),
-    (ROLL_AFTER_IF, Some(&[TWO, THREE]), None, b""),
-    (b"", Some(&[]), None, b""),
-    (
-        ONE_ROLL,
-        Some(&[ONE]),
-        Some(5),
-        b"RUN 2 END 1 7\n     2\n\n",
-    ),
-];
+const RUNS_AFTER_A_RUN: Listings<'static> = listings! {
+    (TWO_ROLLS, b"RUN 1,2 END 1 7\n     2\n\nRUN 2,1 END 1 7\n     2\n\n", after = Some(&[ONE, ONE]), first = Some(2)),
+    (TWO_ROLLS, b"RUN 1,1 END 1 7\n     1\n\nRUN 1,2 END 1 7\n     2\n\n", first = Some(2)),
+    (TWO_ROLLS, TWO_ROLLS_TEXT, first = Some(4)),
+    (TWO_ROLLS, TWO_ROLLS_TEXT, first = Some(1_000_000_000)),
+    (ROLL_AFTER_IF, b"RUN 2,2 END 4 7\n     2\n\nRUN 2,3 END 4 7\n     3\n\n", after = Some(&[TWO, ONE])),
+    (ROLL_AFTER_IF, b"", after = Some(&[TWO, THREE])),
+    (b"", b"", after = Some(&[])),
+    (ONE_ROLL, b"RUN 2 END 1 7\n     2\n\n", after = Some(&[ONE]), first = Some(5)),
+};
 
 // Listings after a run, or of the first runs: what is written, with status 0.
 #[test]
 fn runs_after_a_run(rt: HostRuntime) -> Result<(), Fail> {
-    for &(program, after, first, text) in RUNS_AFTER_A_RUN {
-        let asked = all_of!(program, after = after, first = first);
-        expect_listing(&rt, rt.alloc(), &asked, 100, text)?;
-    }
+    expect_listings(&rt, rt.alloc(), RUNS_AFTER_A_RUN)?;
     Ok(())
 }
 
@@ -354,36 +273,14 @@ const SECOND_WITH_A_BOUND: &[Marked] = &[TWO_OF_2, ONE];
 
 const THIRD_WITH_BOUNDS: &[Marked] = &[TWO_OF_2, TWO_OF_3];
 
-const IN_FORM_TWO: Asked<'static> = all_of!(ROLL_AFTER_IF, form = Form::Two);
-
-const RUNS_WITH_BOUNDS: Listings<'static> = &[
-    (IN_FORM_TWO, ROLL_AFTER_IF_BOUNDS),
-    (
-        Asked {
-            after: Some(SECOND_WITH_A_BOUND),
-            ..IN_FORM_TWO
-        },
-        b"RUN 2/2,2/3 END 4 7\n     2\n\nRUN 2/2,3/3 END 4 7\n     3\n\n",
-    ),
-    (
-        Asked {
-            first: Some(1),
-            ..IN_FORM_TWO
-        },
-        b"RUN 1/2 END 2 0\n\n",
-    ),
-    (
-        all_of!(ROLL_AFTER_IF, after = Some(THIRD_WITH_BOUNDS)),
-        b"RUN 2,3 END 4 7\n     3\n\n",
-    ),
-    (
-        Asked {
-            program: b"",
-            ..IN_FORM_TWO
-        },
-        b"RUN none END 0 0\n\n",
-    ),
-];
+const RUNS_WITH_BOUNDS: Listings<'static> = listings! {
+    (ROLL_AFTER_IF, ROLL_AFTER_IF_BOUNDS, form = Form::Two),
+    (ROLL_AFTER_IF, b"RUN 2/2,2/3 END 4 7\n     2\n\nRUN 2/2,3/3 END 4 7\n     3\n\n",
+     form = Form::Two, after = Some(SECOND_WITH_A_BOUND)),
+    (ROLL_AFTER_IF, b"RUN 1/2 END 2 0\n\n", form = Form::Two, first = Some(1)),
+    (ROLL_AFTER_IF, b"RUN 2,3 END 4 7\n     3\n\n", after = Some(THIRD_WITH_BOUNDS)),
+    (b"", b"RUN none END 0 0\n\n", form = Form::Two),
+};
 
 // In form 2 each answer is followed by its bound. The run to continue after may be named with
 // bounds in either form.

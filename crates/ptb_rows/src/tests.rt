@@ -195,6 +195,13 @@ macro_rules! row {
     };
 }
 
+// A table of such rows.
+macro_rules! rows {
+    ($($fields:tt),* $(,)?) => {
+        &[$(row! $fields),*]
+    };
+}
+
 // What is done with a program by each kind of request that runs it once, samples its runs, adds their
 // chances up, or lists it or its mistakes.
 const EACH_KIND: &[Asked<'static>] = &[
@@ -243,13 +250,28 @@ fn request_of(alloc: Global, row: &Row<'_>) -> Result<Request, AllocError> {
     })
 }
 
+// Serves a request for a program and its input with this writer.
+pub(crate) fn outcome_of(
+    alloc: Global,
+    request: &Request,
+    program: &[u8],
+    input: &[u8],
+    sink: &mut Sink,
+) -> Outcome {
+    let (mut program, mut input) = (Device::new(program), Device::new(input));
+    serve(
+        alloc,
+        request,
+        &mut program,
+        &mut input,
+        &mut Device::new(sink),
+    )
+}
+
 // Serves a row with this writer.
 fn served_to(alloc: Global, row: &Row<'_>, sink: &mut Sink) -> Result<Outcome, AllocError> {
     let request = request_of(alloc, row)?;
-    let mut program = Device::new(row.program);
-    let mut input = Device::new(row.input);
-    let mut out = Device::new(sink);
-    Ok(serve(alloc, &request, &mut program, &mut input, &mut out))
+    Ok(outcome_of(alloc, &request, row.program, row.input, sink))
 }
 
 // Serves a row whose readers give some bytes a call, and whose writer takes as many.
@@ -294,44 +316,17 @@ fn expect_rows(rt: &impl Abort, alloc: Global, rows: &[Row<'_>]) -> Result<(), A
 
 const FOUR_LINES: &[u8] = b"10 P.1\n20 P.2\n010\tP.3\r\n20";
 
-const LISTINGS: &[Row<'static>] = &[
-    row!(FOUR_LINES, b"10 P.3\n", 0, asked = Asked::List),
-    row!(b"", b"", 0, asked = Asked::List),
-    row!(
-        b"20 P.2\n5 P.1\n",
-        b"5 P.1\n20 P.2\n",
-        0,
-        asked = Asked::List
-    ),
-    row!(b"20 P.2\n5 P.1", b"5 P.1\n20 P.2\n", 0, asked = Asked::List),
-    row!(
-        b"10P.\t1 \r\n\r\n   ",
-        b"10 P. 1 \n",
-        0,
-        asked = Asked::List
-    ),
-    row!(
-        b"32767 NONSENSE",
-        b"32767 NONSENSE\n",
-        0,
-        asked = Asked::List
-    ),
-    row!(
-        b"1 GOTO 1\n2 GOTO 1\n3 GOTO 1\n4 GOTO 1\n",
-        b"1 GOTO 1\n2 GOTO 1\n3 GOTO 1\n4 GOTO 1\n",
-        0,
-        asked = Asked::List,
-        steps = 1,
-        memory = 64
-    ),
-    row!(
-        b"10 INPUT A",
-        b"10 INPUT A\n",
-        0,
-        asked = Asked::List,
-        input = b"5\n7\n"
-    ),
-];
+const LISTINGS: &[Row<'static>] = rows! {
+    (FOUR_LINES, b"10 P.3\n", 0, asked = Asked::List),
+    (b"", b"", 0, asked = Asked::List),
+    (b"20 P.2\n5 P.1\n", b"5 P.1\n20 P.2\n", 0, asked = Asked::List),
+    (b"20 P.2\n5 P.1", b"5 P.1\n20 P.2\n", 0, asked = Asked::List),
+    (b"10P.\t1 \r\n\r\n   ", b"10 P. 1 \n", 0, asked = Asked::List),
+    (b"32767 NONSENSE", b"32767 NONSENSE\n", 0, asked = Asked::List),
+    (b"1 GOTO 1\n2 GOTO 1\n3 GOTO 1\n4 GOTO 1\n", b"1 GOTO 1\n2 GOTO 1\n3 GOTO 1\n4 GOTO 1\n", 0, asked = Asked::List,
+     steps = 1, memory = 64),
+    (b"10 INPUT A", b"10 INPUT A\n", 0, asked = Asked::List, input = b"5\n7\n"),
+};
 
 #[test]
 fn listings(rt: HostRuntime) -> Result<(), Fail> {
@@ -341,71 +336,27 @@ fn listings(rt: HostRuntime) -> Result<(), Fail> {
 
 const THREE_MISTAKES: &[u8] = b"30 LET A=(3+4, X=4\n20 GOTO 412\n10 IF 0 PTINT \"X\"\n";
 
-const CHECKS: &[Row<'static>] = &[
-    row!(b"10 PRINT \"HI\"", b"", 0, asked = Asked::Check),
-    row!(
-        THREE_MISTAKES,
-        b"WHAT?\n10 IF 0 P?TINT \"X\"\nHOW?\n20 GOTO 412?\nWHAT?\n30 LET A=(3+4?, X=4\n",
-        1,
-        asked = Asked::Check
-    ),
-    row!(
-        b"10 GOSUB 99;A=32768;PRINT )",
-        b"HOW?\n10 GOSUB 99?;A=32768;PRINT )\nHOW?\n10 GOSUB 99;A=32768?;PRINT )\n",
-        1,
-        asked = Asked::Check
-    ),
-    row!(b"10 GOTO A\n20 RETURN", b"", 0, asked = Asked::Check),
-    row!(
-        b"10 PRINT (1/0",
-        b"WHAT?\n10 PRINT (1/0?\n",
-        1,
-        asked = Asked::Check
-    ),
-    row!(b"", b"", 0, asked = Asked::Check),
-    row!(
-        b"10 GOTO 20\n20 GOSUB 10;GOTO (10)",
-        b"",
-        0,
-        asked = Asked::Check
-    ),
-    row!(
-        b"10 IF 1 GOTO +412 ",
-        b"HOW?\n10 IF 1 GOTO +412 ?\n",
-        1,
-        asked = Asked::Check
-    ),
-    row!(
-        b"10 GOSUB 0;GOTO 32767",
-        b"HOW?\n10 GOSUB 0?;GOTO 32767\nHOW?\n10 GOSUB 0;GOTO 32767?\n",
-        1,
-        asked = Asked::Check
-    ),
-    row!(
-        b"32767 GOTO 411+1;P.1",
-        b"WHAT?\n32767 GOTO 411+1?;P.1\n",
-        1,
-        asked = Asked::Check,
-        steps = 1,
-        memory = 64
-    ),
+const CHECKS: &[Row<'static>] = rows! {
+    (b"10 PRINT \"HI\"", b"", 0, asked = Asked::Check),
+    (THREE_MISTAKES, b"WHAT?\n10 IF 0 P?TINT \"X\"\nHOW?\n20 GOTO 412?\nWHAT?\n30 LET A=(3+4?, X=4\n", 1,
+     asked = Asked::Check),
+    (b"10 GOSUB 99;A=32768;PRINT )", b"HOW?\n10 GOSUB 99?;A=32768;PRINT )\nHOW?\n10 GOSUB 99;A=32768?;PRINT )\n", 1,
+     asked = Asked::Check),
+    (b"10 GOTO A\n20 RETURN", b"", 0, asked = Asked::Check),
+    (b"10 PRINT (1/0", b"WHAT?\n10 PRINT (1/0?\n", 1, asked = Asked::Check),
+    (b"", b"", 0, asked = Asked::Check),
+    (b"10 GOTO 20\n20 GOSUB 10;GOTO (10)", b"", 0, asked = Asked::Check),
+    (b"10 IF 1 GOTO +412 ", b"HOW?\n10 IF 1 GOTO +412 ?\n", 1, asked = Asked::Check),
+    (b"10 GOSUB 0;GOTO 32767", b"HOW?\n10 GOSUB 0?;GOTO 32767\nHOW?\n10 GOSUB 0;GOTO 32767?\n", 1,
+     asked = Asked::Check),
+    (b"32767 GOTO 411+1;P.1", b"WHAT?\n32767 GOTO 411+1?;P.1\n", 1, asked = Asked::Check, steps = 1, memory = 64),
     // in each kind of command
-    row!(
-        b"10 F.I=1TO;N.I\n20 N.1\n30 IN.A,)\n40 P.#,A\n50 @(\n60 STOP 1\n70 RETURN;\n80 P.1;;P.2",
-        b"WHAT?\n10 F.I=1TO?;N.I\nWHAT?\n20 N.?1\nWHAT?\n30 IN.A,?)\nWHAT?\n40 P.#?,A\n\
-          WHAT?\n50 @(?\nWHAT?\n60 STOP ?1\nWHAT?\n70 RETURN?;\nWHAT?\n80 P.1;?;P.2\n",
-        1,
-        asked = Asked::Check
-    ),
+    (b"10 F.I=1TO;N.I\n20 N.1\n30 IN.A,)\n40 P.#,A\n50 @(\n60 STOP 1\n70 RETURN;\n80 P.1;;P.2",
+     b"WHAT?\n10 F.I=1TO?;N.I\nWHAT?\n20 N.?1\nWHAT?\n30 IN.A,?)\nWHAT?\n40 P.#?,A\nWHAT?\n50 @(?\nWHAT?\n\
+      60 STOP ?1\nWHAT?\n70 RETURN?;\nWHAT?\n80 P.1;?;P.2\n", 1, asked = Asked::Check),
     // whatever is after REM, and mistakes of the input
-    row!(
-        b"10 REM GOTO 99;(\n20 INPUT A",
-        b"",
-        0,
-        asked = Asked::Check,
-        input = b")\n"
-    ),
-];
+    (b"10 REM GOTO 99;(\n20 INPUT A", b"", 0, asked = Asked::Check, input = b")\n"),
+};
 
 // The mistakes in a text.
 #[test]
@@ -414,57 +365,25 @@ fn checks(rt: HostRuntime) -> Result<(), Fail> {
     Ok(())
 }
 
-const TABLES: &[Row<'static>] = &[
-    row!(b"", b"CHANCE 1/1 1 END 0\n\n", 0, asked = Asked::Chances),
-    row!(
-        b"10 A=RND(2);IF A=2 A=RND(3)\n20 P.#1,A",
-        b"CHANCE 2/3 2 END 1\n1\nCHANCE 1/6 1 END 1\n2\nCHANCE 1/6 1 END 1\n3\n",
-        0,
-        asked = Asked::Chances
-    ),
-    row!(
-        b"10 A=RND(2)\n20 IF A=1 GOTO 10",
-        b"CHANCE 3/4 2 END 0\n\nCHANCE 1/4 1 LIMIT 0\n\n",
-        0,
-        asked = Asked::Chances,
-        steps = 5
-    ),
+const TABLES: &[Row<'static>] = rows! {
+    (b"", b"CHANCE 1/1 1 END 0\n\n", 0, asked = Asked::Chances),
+    (b"10 A=RND(2);IF A=2 A=RND(3)\n20 P.#1,A",
+     b"CHANCE 2/3 2 END 1\n1\nCHANCE 1/6 1 END 1\n2\nCHANCE 1/6 1 END 1\n3\n", 0, asked = Asked::Chances),
+    (b"10 A=RND(2)\n20 IF A=1 GOTO 10", b"CHANCE 3/4 2 END 0\n\nCHANCE 1/4 1 LIMIT 0\n\n", 0, asked = Asked::Chances,
+     steps = 5),
     // a minus sign comes before the digits
-    row!(
-        b"10 F.I=1TO4;A=A+RND(2)*2-3;N.I;P.#1,A",
-        b"CHANCE 1/4 4 END 2\n-2\nCHANCE 1/16 1 END 2\n-4\nCHANCE 3/8 6 END 1\n0\n\
-          CHANCE 1/4 4 END 1\n2\nCHANCE 1/16 1 END 1\n4\n",
-        0,
-        asked = Asked::Chances
-    ),
+    (b"10 F.I=1TO4;A=A+RND(2)*2-3;N.I;P.#1,A",
+     b"CHANCE 1/4 4 END 2\n-2\nCHANCE 1/16 1 END 2\n-4\nCHANCE 3/8 6 END 1\n0\nCHANCE 1/4 4 END 1\n2\n\
+      CHANCE 1/16 1 END 1\n4\n", 0, asked = Asked::Chances),
     // by the endings first, then by the lines
-    row!(
-        b"10 A=RND(3);P.#1,A;IF A=1 STOP\n20 IF A=2 P.1/0",
-        b"CHANCE 1/3 1 END 1\n3\nCHANCE 1/3 1 STOP 1\n1\nCHANCE 1/3 1 HOW 16\n20 IF A=2 P.1/0?\n",
-        0,
-        asked = Asked::Chances
-    ),
-    row!(
-        b"10 INPUT A;P.#1,A",
-        b"CHANCE 1/2 1 END 1\n1\nCHANCE 1/2 1 END 1\n2\n",
-        0,
-        asked = Asked::Chances,
-        input = b"RND(2)\n"
-    ),
-    row!(
-        b"10 INPUT A",
-        b"CHANCE 1/2 1 END 3\nA:1\nCHANCE 1/2 1 END 3\nA:2\n",
-        0,
-        asked = Asked::Chances,
-        choose = Some(2)
-    ),
-    row!(
-        b"10 INPUT A;P.RND(2)",
-        b"CHANCE 1/1 1 NOINPUT 2\nA:\n",
-        0,
-        asked = Asked::Chances
-    ),
-];
+    (b"10 A=RND(3);P.#1,A;IF A=1 STOP\n20 IF A=2 P.1/0",
+     b"CHANCE 1/3 1 END 1\n3\nCHANCE 1/3 1 STOP 1\n1\nCHANCE 1/3 1 HOW 16\n20 IF A=2 P.1/0?\n", 0,
+     asked = Asked::Chances),
+    (b"10 INPUT A;P.#1,A", b"CHANCE 1/2 1 END 1\n1\nCHANCE 1/2 1 END 1\n2\n", 0, asked = Asked::Chances,
+     input = b"RND(2)\n"),
+    (b"10 INPUT A", b"CHANCE 1/2 1 END 3\nA:1\nCHANCE 1/2 1 END 3\nA:2\n", 0, asked = Asked::Chances, choose = Some(2)),
+    (b"10 INPUT A;P.RND(2)", b"CHANCE 1/1 1 NOINPUT 2\nA:\n", 0, asked = Asked::Chances),
+};
 
 // The chances of all results.
 #[test]
@@ -473,41 +392,12 @@ fn tables_of_chances(rt: HostRuntime) -> Result<(), Fail> {
     Ok(())
 }
 
-// Nothing is written of a table until its input was read to its end.
-#[test]
-fn tables_on_unread_inputs(rt: HostRuntime) -> Result<(), Fail> {
-    let row = row!(
-        b"10 P.RND(6)\n",
-        b"",
-        66,
-        asked = Asked::Chances,
-        note = Some(Note::InputUnread)
-    );
-    expect_unread_input(&rt, rt.alloc(), &row, b"5\n")?;
-    let request = request_of(rt.alloc(), &row)?;
-    let (reply, given) = reply_on_endless_input(rt.alloc(), &request, row.program, 1);
-    expect_reply(&rt, reply, (66, Some(Note::InputUnread)), b"");
-    expect_same(&rt, given <= 16_777_217, true);
-    Ok(())
-}
-
-const SEEDED_RUNS: &[Row<'static>] = &[
-    row!(b"10 P.RND(1)", b"     1\n", 0, asked = Asked::Seed(7)),
-    row!(
-        b"10 P.RND(6),RND(6),RND(100)",
-        b"     3     5    13\n",
-        0,
-        asked = Asked::Seed(7)
-    ),
-    row!(
-        b"10 INPUT A;PRINT A",
-        b"A:RND(6)\n     3\n",
-        0,
-        asked = Asked::Seed(7),
-        input = b"RND(6)\n"
-    ),
-    row!(b"10 INPUT A", b"A:", 5, asked = Asked::Seed(7)),
-];
+const SEEDED_RUNS: &[Row<'static>] = rows! {
+    (b"10 P.RND(1)", b"     1\n", 0, asked = Asked::Seed(7)),
+    (b"10 P.RND(6),RND(6),RND(100)", b"     3     5    13\n", 0, asked = Asked::Seed(7)),
+    (b"10 INPUT A;PRINT A", b"A:RND(6)\n     3\n", 0, asked = Asked::Seed(7), input = b"RND(6)\n"),
+    (b"10 INPUT A", b"A:", 5, asked = Asked::Seed(7)),
+};
 
 #[test]
 fn seeded_runs(rt: HostRuntime) -> Result<(), Fail> {
@@ -515,54 +405,17 @@ fn seeded_runs(rt: HostRuntime) -> Result<(), Fail> {
     Ok(())
 }
 
-const SPLITS: &[Row<'static>] = &[
-    row!(
-        b"10 A=RND(2);IF A=2 B=RND(3);PRINT B",
-        b"1/2\n2/2\n",
-        0,
-        asked = Asked::Shares(1, Form::Two)
-    ),
-    row!(
-        b"10 A=RND(2);IF A=2 B=RND(3);PRINT B",
-        b"1/2\n2/2,1/3\n2/2,2/3\n2/2,3/3\n",
-        0,
-        asked = Asked::Shares(2, Form::Two)
-    ),
-    row!(
-        b"10 A=RND(2);IF A=2 B=RND(3);PRINT B",
-        b"1\n2,1\n2,2\n2,3\n",
-        0,
-        asked = Asked::Shares(9, Form::One)
-    ),
-    row!(b"", b"none\n", 0, asked = Asked::Shares(1, Form::Two)),
-    row!(
-        b"10 P.RND(2)",
-        b"none\n",
-        0,
-        asked = Asked::Shares(0, Form::Two)
-    ),
-    row!(
-        b"10 INPUT A;PRINT RND(9)",
-        b"1/2\n2/2\n",
-        0,
-        asked = Asked::Shares(1, Form::Two),
-        input = b"RND(2)\n"
-    ),
-    row!(
-        b"10 INPUT A,B",
-        b"1/3\n2/3\n3/3\n",
-        0,
-        asked = Asked::Shares(1, Form::Two),
-        choose = Some(3)
-    ),
-    row!(
-        b"10 A=RND(2);B=RND(2)",
-        b"1/2\n2/2\n",
-        0,
-        asked = Asked::Shares(2, Form::Two),
-        steps = 1
-    ),
-];
+const SPLITS: &[Row<'static>] = rows! {
+    (b"10 A=RND(2);IF A=2 B=RND(3);PRINT B", b"1/2\n2/2\n", 0, asked = Asked::Shares(1, Form::Two)),
+    (b"10 A=RND(2);IF A=2 B=RND(3);PRINT B", b"1/2\n2/2,1/3\n2/2,2/3\n2/2,3/3\n", 0,
+     asked = Asked::Shares(2, Form::Two)),
+    (b"10 A=RND(2);IF A=2 B=RND(3);PRINT B", b"1\n2,1\n2,2\n2,3\n", 0, asked = Asked::Shares(9, Form::One)),
+    (b"", b"none\n", 0, asked = Asked::Shares(1, Form::Two)),
+    (b"10 P.RND(2)", b"none\n", 0, asked = Asked::Shares(0, Form::Two)),
+    (b"10 INPUT A;PRINT RND(9)", b"1/2\n2/2\n", 0, asked = Asked::Shares(1, Form::Two), input = b"RND(2)\n"),
+    (b"10 INPUT A,B", b"1/3\n2/3\n3/3\n", 0, asked = Asked::Shares(1, Form::Two), choose = Some(3)),
+    (b"10 A=RND(2);B=RND(2)", b"1/2\n2/2\n", 0, asked = Asked::Shares(2, Form::Two), steps = 1),
+};
 
 // The lists that split the runs.
 #[test]
@@ -571,96 +424,24 @@ fn lists_that_split(rt: HostRuntime) -> Result<(), Fail> {
     Ok(())
 }
 
-// Nothing is written of these lists until the input was read to its end.
-#[test]
-fn splits_on_unread_inputs(rt: HostRuntime) -> Result<(), Fail> {
-    let asked = Asked::Shares(1, Form::Two);
-    let row = row!(
-        b"10 P.RND(6)\n",
-        b"",
-        66,
-        asked = asked,
-        note = Some(Note::InputUnread)
-    );
-    expect_unread_input(&rt, rt.alloc(), &row, b"5\n")?;
-    let request = request_of(rt.alloc(), &row)?;
-    let (reply, given) = reply_on_endless_input(rt.alloc(), &request, row.program, 1);
-    expect_reply(&rt, reply, (66, Some(Note::InputUnread)), b"");
-    expect_same(&rt, given <= 16_777_217, true);
-    Ok(())
-}
-
-const SAMPLES: &[Row<'static>] = &[
-    row!(
-        b"10 P.RND(6)",
-        b"RUN 3/6 END 1 7\n     3\n\nRUN 5/6 END 1 7\n     5\n\nRUN 5/6 END 1 7\n     5\n\n",
-        0,
-        asked = Asked::Sample(3, Form::Two)
-    ),
-    row!(
-        b"10 P.RND(6)",
-        b"RUN 3 END 1 7\n     3\n\n",
-        0,
-        asked = Asked::Sample(1, Form::One)
-    ),
-    row!(
-        b"10 A=RND(2);IF A=2 B=RND(3);PRINT B",
-        b"RUN 1 END 2 0\n\nRUN 1 END 2 0\n\nRUN 1 END 2 0\n\nRUN 2,1 END 4 7\n     1\n\n",
-        0,
-        asked = Asked::Sample(4, Form::One)
-    ),
-    row!(
-        b"10 INPUT A",
-        b"RUN 3 END 1 9\nA:RND(6)\n\nRUN 5 END 1 9\nA:RND(6)\n\n",
-        0,
-        asked = Asked::Sample(2, Form::One),
-        input = b"RND(6)\n5\n"
-    ),
-    row!(
-        b"10 INPUT A",
-        b"RUN 3/6 END 1 4\nA:3\n\n",
-        0,
-        asked = Asked::Sample(1, Form::Two),
-        choose = Some(6)
-    ),
-    row!(
-        b"10 A=RND(2);GOTO 10",
-        b"RUN 1/2,1/2 LIMIT 3 0\n\n",
-        0,
-        asked = Asked::Sample(1, Form::Two),
-        steps = 3
-    ),
-    row!(
-        b"",
-        b"RUN none END 0 0\n\n",
-        0,
-        asked = Asked::Sample(1, Form::Two)
-    ),
-];
+const SAMPLES: &[Row<'static>] = rows! {
+    (b"10 P.RND(6)", b"RUN 3/6 END 1 7\n     3\n\nRUN 5/6 END 1 7\n     5\n\nRUN 5/6 END 1 7\n     5\n\n", 0,
+     asked = Asked::Sample(3, Form::Two)),
+    (b"10 P.RND(6)", b"RUN 3 END 1 7\n     3\n\n", 0, asked = Asked::Sample(1, Form::One)),
+    (b"10 A=RND(2);IF A=2 B=RND(3);PRINT B",
+     b"RUN 1 END 2 0\n\nRUN 1 END 2 0\n\nRUN 1 END 2 0\n\nRUN 2,1 END 4 7\n     1\n\n", 0,
+     asked = Asked::Sample(4, Form::One)),
+    (b"10 INPUT A", b"RUN 3 END 1 9\nA:RND(6)\n\nRUN 5 END 1 9\nA:RND(6)\n\n", 0, asked = Asked::Sample(2, Form::One),
+     input = b"RND(6)\n5\n"),
+    (b"10 INPUT A", b"RUN 3/6 END 1 4\nA:3\n\n", 0, asked = Asked::Sample(1, Form::Two), choose = Some(6)),
+    (b"10 A=RND(2);GOTO 10", b"RUN 1/2,1/2 LIMIT 3 0\n\n", 0, asked = Asked::Sample(1, Form::Two), steps = 3),
+    (b"", b"RUN none END 0 0\n\n", 0, asked = Asked::Sample(1, Form::Two)),
+};
 
 // The reports of the runs that a seed draws, one after the other.
 #[test]
 fn samples(rt: HostRuntime) -> Result<(), Fail> {
     expect_rows(&rt, rt.alloc(), SAMPLES)?;
-    Ok(())
-}
-
-// Nothing is written of a sample until its input was read to the end.
-#[test]
-fn samples_on_unread_inputs(rt: HostRuntime) -> Result<(), Fail> {
-    let asked = Asked::Sample(3, Form::Two);
-    let row = row!(
-        b"10 P.RND(6)\n",
-        b"",
-        66,
-        asked = asked,
-        note = Some(Note::InputUnread)
-    );
-    expect_unread_input(&rt, rt.alloc(), &row, b"5\n")?;
-    let request = request_of(rt.alloc(), &row)?;
-    let (reply, given) = reply_on_endless_input(rt.alloc(), &request, row.program, 1);
-    expect_reply(&rt, reply, (66, Some(Note::InputUnread)), b"");
-    expect_same(&rt, given <= 16_777_217, true);
     Ok(())
 }
 
@@ -707,45 +488,14 @@ fn seeds_and_lists(rt: HostRuntime) -> Result<(), Fail> {
 const ELEVEN_LINES: &[u8] =
     b"1 P.1\n2 P.1\n3 P.1\n4 P.1\n5 P.1\n6 P.1\n7 P.1\n8 P.1\n9 P.1\n10 P.1\n11 P.1\n";
 
-const REFUSED_PROGRAMS: &[Row<'static>] = &[
-    row!(
-        b"32768 P.1",
-        b"",
-        65,
-        note = Some(Note::Load(1, LoadFault::NumberTooBig))
-    ),
-    row!(
-        b"0 P.",
-        b"",
-        65,
-        note = Some(Note::Load(1, LoadFault::NoNumber))
-    ),
-    row!(
-        b"P.1",
-        b"",
-        65,
-        note = Some(Note::Load(1, LoadFault::NoNumber))
-    ),
-    row!(
-        b"10 P.\x7f",
-        b"",
-        65,
-        note = Some(Note::Load(1, LoadFault::BadByte(6)))
-    ),
-    row!(
-        b"10 P.1\n\n\nP.2\n0",
-        b"",
-        65,
-        note = Some(Note::Load(4, LoadFault::NoNumber))
-    ),
-    row!(
-        ELEVEN_LINES,
-        b"",
-        65,
-        note = Some(Note::Load(11, LoadFault::Full)),
-        memory = 64
-    ),
-];
+const REFUSED_PROGRAMS: &[Row<'static>] = rows! {
+    (b"32768 P.1", b"", 65, note = Some(Note::Load(1, LoadFault::NumberTooBig))),
+    (b"0 P.", b"", 65, note = Some(Note::Load(1, LoadFault::NoNumber))),
+    (b"P.1", b"", 65, note = Some(Note::Load(1, LoadFault::NoNumber))),
+    (b"10 P.\x7f", b"", 65, note = Some(Note::Load(1, LoadFault::BadByte(6)))),
+    (b"10 P.1\n\n\nP.2\n0", b"", 65, note = Some(Note::Load(4, LoadFault::NoNumber))),
+    (ELEVEN_LINES, b"", 65, note = Some(Note::Load(11, LoadFault::Full)), memory = 64),
+};
 
 #[test]
 fn refused_programs(rt: HostRuntime) -> Result<(), Fail> {
@@ -757,45 +507,11 @@ fn refused_programs(rt: HostRuntime) -> Result<(), Fail> {
     Ok(())
 }
 
-// A byte so often, with text before it and after it.
-fn long_text(
-    alloc: Global,
-    before: &[u8],
-    byte: u8,
-    count: usize,
-    following: &[u8],
-) -> Result<Vec<u8>, AllocError> {
-    let mut text = Vec::from_slice(alloc, before)?;
-    for _ in 0..count {
-        text.push(byte)?;
-    }
-    text.extend_from_slice(following)?;
-    Ok(text)
-}
-
-// Text, a byte so often, and text after it; and why that is refused.
-const LONG_PROGRAMS: &[(&[u8], u8, usize, &[u8], Note)] = &[
-    (
-        b"",
-        b'9',
-        200,
-        b" P.",
-        Note::Load(1, LoadFault::NumberTooBig),
-    ),
-    (
-        b"10 A=",
-        b'9',
-        254,
-        b"",
-        Note::Load(1, LoadFault::TextTooLong),
-    ),
-    (
-        b"",
-        b'\n',
-        1_048_577,
-        b"",
-        Note::Load(0, LoadFault::TooLong),
-    ),
+// A text, another one so often, a third one, and why they are refused together.
+const LONG_PROGRAMS: &[(&str, &str, usize, &str, Note)] = &[
+    ("", "9", 200, " P.", Note::Load(1, LoadFault::NumberTooBig)),
+    ("10 A=", "9", 254, "", Note::Load(1, LoadFault::TextTooLong)),
+    ("", "\n", 1_048_577, "", Note::Load(0, LoadFault::TooLong)),
 ];
 
 // A program is refused, whatever is asked for.
@@ -814,9 +530,10 @@ fn expect_refused(
 
 #[test]
 fn refused_long_programs(rt: HostRuntime) -> Result<(), Fail> {
-    for &(before, byte, count, following, note) in LONG_PROGRAMS {
-        let text = long_text(rt.alloc(), before, byte, count, following)?;
-        expect_refused(&rt, rt.alloc(), &text, note)?;
+    for &(before, piece, count, following, note) in LONG_PROGRAMS {
+        let middle = piece.repeat(rt.alloc(), count)?;
+        let text = format!(in rt.alloc(); "{before}{middle}{following}")?;
+        expect_refused(&rt, rt.alloc(), text.as_bytes(), note)?;
     }
     Ok(())
 }
@@ -877,25 +594,17 @@ fn endless_programs(rt: HostRuntime) -> Result<(), Fail> {
     Ok(())
 }
 
-const WITHOUT_INPUT: &[Row<'static>] = &[
-    row!(b"10 INPUT A\n", b"10 INPUT A\n", 0, asked = Asked::List),
-    row!(b"10 INPUT A\n", b"", 0, asked = Asked::Check),
-    row!(
-        b"10 INPUT A,\n",
-        b"WHAT?\n10 INPUT A,?\n",
-        1,
-        asked = Asked::Check
-    ),
-];
+const WITHOUT_INPUT: &[Row<'static>] = rows! {
+    (b"10 INPUT A\n", b"10 INPUT A\n", 0, asked = Asked::List),
+    (b"10 INPUT A\n", b"", 0, asked = Asked::Check),
+    (b"10 INPUT A,\n", b"WHAT?\n10 INPUT A,?\n", 1, asked = Asked::Check),
+};
 
 // A listing of a text or of its mistakes leaves its input alone.
 #[test]
 fn inputs_left_alone(rt: HostRuntime) -> Result<(), Fail> {
     for row in WITHOUT_INPUT {
-        let request = request_of(rt.alloc(), row)?;
-        let (reply, given) = reply_on_endless_input(rt.alloc(), &request, row.program, 3);
-        expect_reply(&rt, reply, (row.status, None), row.bytes);
-        expect_same(&rt, given, 0);
+        expect_no_reading(&rt, rt.alloc(), row)?;
     }
     Ok(())
 }
@@ -920,86 +629,57 @@ fn expect_broken_off(
     Ok(())
 }
 
-// What was written of a listing of 16 bytes is its beginning, whichever call fails.
-#[test]
-fn listings_that_cannot_be_written(rt: HostRuntime) -> Result<(), Fail> {
-    let listing = b"10 P.12\n20 P.34\n";
-    let row = row!(b"20 P.34\n10 P.12\n", listing, 0, asked = Asked::List);
-    for &failing in FAILINGS {
-        for calls in 0..=8 {
-            let sink = make_sink(rt.alloc(), 2, calls, failing);
-            expect_broken_off(&rt, rt.alloc(), &row, sink, 2 * calls)?;
-        }
-    }
-    Ok(())
-}
+// A listing of 16 bytes, the mistakes of a text, 35 bytes, and a table of 42 bytes.
+const WRITTEN_IN_PIECES: &[Row<'static>] = rows! {
+    (b"20 P.34\n10 P.12\n", b"10 P.12\n20 P.34\n", 0, asked = Asked::List),
+    (b"20 GOTO 30\n10 PRINT )\n", b"WHAT?\n10 PRINT ?)\nHOW?\n20 GOTO 30?\n", 1, asked = Asked::Check),
+    (b"10 P.#1,RND(2)\n", b"CHANCE 1/2 1 END 1\n1\nCHANCE 1/2 1 END 1\n2\n", 0, asked = Asked::Chances),
+};
 
-// What was written of the mistakes of a text, 35 bytes, is their beginning, whichever call fails.
-#[test]
-fn checks_that_cannot_be_written(rt: HostRuntime) -> Result<(), Fail> {
-    let mistakes = b"WHAT?\n10 PRINT ?)\nHOW?\n20 GOTO 30?\n";
-    let row = row!(
-        b"20 GOTO 30\n10 PRINT )\n",
-        mistakes,
-        1,
-        asked = Asked::Check
-    );
-    for &failing in FAILINGS {
-        for calls in 0..=19 {
-            let sink = make_sink(rt.alloc(), 2, calls, failing);
-            expect_broken_off(&rt, rt.alloc(), &row, sink, 2 * calls)?;
-        }
-    }
-    Ok(())
-}
-
-// What was written of a table of 42 bytes is its beginning, whichever call fails.
-#[test]
-fn tables_that_cannot_be_written(rt: HostRuntime) -> Result<(), Fail> {
-    let table = b"CHANCE 1/2 1 END 1\n1\nCHANCE 1/2 1 END 1\n2\n";
-    let row = row!(b"10 P.#1,RND(2)\n", table, 0, asked = Asked::Chances);
+// What was written of a row by calls of two bytes is its beginning, whichever call fails.
+fn expect_pieces(rt: &impl Abort, alloc: Global, row: &Row<'_>) -> Result<(), AllocError> {
     for &failing in FAILINGS {
         for calls in 0..=22 {
-            let sink = make_sink(rt.alloc(), 2, calls, failing);
-            expect_broken_off(&rt, rt.alloc(), &row, sink, 2 * calls)?;
+            let sink = make_sink(alloc, 2, calls, failing);
+            expect_broken_off(rt, alloc, row, sink, 2 * calls)?;
         }
     }
     Ok(())
 }
 
-const RUNS_WITHOUT_INPUT: &[Row<'static>] = &[
-    row!(b"", b"", 0),
-    row!(b"10 PRINT \"HI\"\n", b"HI\n", 0),
-    row!(b"20 P.\"B\"\n10 P.'A',;P.\n", b"A\nB\n", 0),
-    row!(b"10 P.\"A\";P.1", b"A\n     1\n", 0),
-    row!(b"10 P.RND(2)", b"     2\n", 0, asked = Asked::Run(&[2])),
-    row!(b"10 P.RND(2)", b"     1\n", 0, asked = Asked::Run(&[1, 9])),
-    row!(b"10 P.RND(2)", b"", 6, asked = Asked::Run(&[])),
-    row!(b"10 P.RND(2)", b"", 7, asked = Asked::Run(&[3])),
-    row!(b"10 GOTO 10", b"", 4, steps = 5),
-    row!(b"10 PRINT -32767-1", b"-32768\n", 0),
-    row!(b"10 PRINT -(-32767-1)", b"HOW?\n10 PRINT -(-32767-1)?\n", 2),
-    row!(b"10 F.I=1TO3S.2;P.I,;N.I", b"     1     3", 0, steps = 5),
-    row!(b"10 F.I=1TO3S.2;P.I,;N.I", b"     1     3", 4, steps = 4),
-    row!(b"10 PRINT 'ABC',_,\"X\",#3,7", b"ABC\rX  7\n", 0),
-    row!(b"10 GOSUB 10", b"SORRY\n10 GOSUB 10?\n", 3, steps = 257),
-    row!(b"10 GOSUB 10", b"", 4, steps = 256),
-    row!(
-        b"300 B=200,C=200\n310 LET A=B*C+2",
-        b"HOW?\n310 LET A=B*C?+2\n",
-        2
-    ),
-    row!(b"10 @(27)=1", b"", 0, memory = 64),
-    row!(b"10 @(28)=1", b"SORRY\n10 @(28)?=1\n", 3, memory = 64),
-    row!(b"10 PRINT SIZE", b"  4083\n", 0),
-    row!(
-        b"10 GOS.30;N.J\n30 F.J=1TO9;R.",
-        b"WHAT?\n10 GOS.30;N.J?\n",
-        1
-    ),
-    row!(b"10 A=3,@(A)=A+1;P.@(3)", b"     4\n", 0),
-    row!(b"10 F.I=1TO1;GOS.10", b"SORRY\n10 F.I=1TO1?;GOS.10\n", 3),
-];
+#[test]
+fn replies_that_cannot_be_written(rt: HostRuntime) -> Result<(), Fail> {
+    for row in WRITTEN_IN_PIECES {
+        expect_pieces(&rt, rt.alloc(), row)?;
+    }
+    Ok(())
+}
+
+const RUNS_WITHOUT_INPUT: &[Row<'static>] = rows! {
+    (b"", b"", 0),
+    (b"10 PRINT \"HI\"\n", b"HI\n", 0),
+    (b"20 P.\"B\"\n10 P.'A',;P.\n", b"A\nB\n", 0),
+    (b"10 P.\"A\";P.1", b"A\n     1\n", 0),
+    (b"10 PRINT -32767-1", b"-32768\n", 0),
+    (b"10 PRINT -(-32767-1)", b"HOW?\n10 PRINT -(-32767-1)?\n", 2),
+    (b"10 PRINT 'ABC',_,\"X\",#3,7", b"ABC\rX  7\n", 0),
+    (b"300 B=200,C=200\n310 LET A=B*C+2", b"HOW?\n310 LET A=B*C?+2\n", 2),
+    (b"10 PRINT SIZE", b"  4083\n", 0),
+    (b"10 GOS.30;N.J\n30 F.J=1TO9;R.", b"WHAT?\n10 GOS.30;N.J?\n", 1),
+    (b"10 A=3,@(A)=A+1;P.@(3)", b"     4\n", 0),
+    (b"10 F.I=1TO1;GOS.10", b"SORRY\n10 F.I=1TO1?;GOS.10\n", 3),
+    (b"10 P.RND(2)", b"     2\n", 0, asked = Asked::Run(&[2])),
+    (b"10 P.RND(2)", b"     1\n", 0, asked = Asked::Run(&[1, 9])),
+    (b"10 GOTO 10", b"", 4, steps = 5),
+    (b"10 F.I=1TO3S.2;P.I,;N.I", b"     1     3", 0, steps = 5),
+    (b"10 F.I=1TO3S.2;P.I,;N.I", b"     1     3", 4, steps = 4),
+    (b"10 P.RND(2)", b"", 6, asked = Asked::Run(&[])),
+    (b"10 P.RND(2)", b"", 7, asked = Asked::Run(&[3])),
+    (b"10 GOSUB 10", b"SORRY\n10 GOSUB 10?\n", 3, steps = 257),
+    (b"10 GOSUB 10", b"", 4, steps = 256),
+    (b"10 @(27)=1", b"", 0, memory = 64),
+    (b"10 @(28)=1", b"SORRY\n10 @(28)?=1\n", 3, memory = 64),
+};
 
 #[test]
 fn runs_without_input(rt: HostRuntime) -> Result<(), Fail> {
@@ -1007,53 +687,35 @@ fn runs_without_input(rt: HostRuntime) -> Result<(), Fail> {
     Ok(())
 }
 
-const RUNS_OF_EACH_COMMAND: &[Row<'static>] = &[
-    row!(b"210 PTINT \"THIS\"", b"WHAT?\n210 P?TINT \"THIS\"\n", 1),
-    row!(
-        b"260 LET A=B+3, C=(3+4, X=4",
-        b"WHAT?\n260 LET A=B+3, C=(3+4?, X=4\n",
-        1
-    ),
-    row!(b"380 GOTO 412", b"HOW?\n380 GOTO 412?\n", 2),
-    row!(b"10 PRINT 2*-3", b"WHAT?\n10 PRINT 2*?-3\n", 1),
-    row!(b"10 PRINT 1<2<3", b"     1\nWHAT?\n10 PRINT 1<2?<3\n", 1),
-    row!(b"10 P.32768", b"HOW?\n10 P.32768?\n", 2),
-    row!(b"10 P.\"A\",'B", b"A\nWHAT?\n10 P.\"A\",?'B\n", 1),
-    row!(
-        b"10 P.#2,-123,#256,1",
-        b"-123\nHOW?\n10 P.#2,-123,#256?,1\n",
-        2
-    ),
-    row!(b"10 F.I=5TO1;P.I;N.I", b"     5\n", 0, steps = 3),
-    row!(b"10 F.I=32766TO32767;N.I;P.I", b" 32767\n", 0, steps = 4),
-    row!(b"10 RETURN", b"WHAT?\n10 RETURN?\n", 1),
-    row!(b"10 GOTO 10;P.1", b"WHAT?\n10 GOTO 10?;P.1\n", 1),
-    row!(
-        b"10 GOSUB 40;P.1\n20 STOP\n40 P.2;RETURN",
-        b"     2\n     1\n",
-        0,
-        steps = 5
-    ),
-    row!(b"10 IF 0 NONSENSE\n20 P.2/3;", b"     0\n", 0, steps = 2),
-    row!(b"10 A=1/0", b"HOW?\n10 A=1/0?\n", 2),
-    row!(b"10 A=B=0;P.A", b"     1\n", 0),
-    row!(b"10 REM;P.1\n20 PRINT", b"\n", 0, steps = 2),
-    row!(b"10 .1", b"WHAT?\n10 ?.1\n", 1),
-    row!(b"10 P", b"WHAT?\n10 P?\n", 1),
-    row!(b"10 PRINT.", b"WHAT?\n10 PRINT?.\n", 1),
-    row!(b"10 I.1P.2", b"     2\n", 0),
-    row!(b"10 P.S.", b"  4089\n", 0),
-    row!(b"10 INPUT \"N", b"WHAT?\n10 INPUT ?\"N\n", 1),
-    row!(b"10 P.1;;P.2", b"     1\nWHAT?\n10 P.1;?;P.2\n", 1),
-    row!(b"10 @(16371)=1;P.@(16371)", b"     1\n", 0, memory = 32767),
-    row!(
-        b"10 @(16372)=1;P.@(16372)",
-        b"SORRY\n10 @(16372)?=1;P.@(16372)\n",
-        3,
-        memory = 32767
-    ),
-    row!(b"10 @(32767)=1", b"SORRY\n10 @(32767)?=1\n", 3),
-];
+const RUNS_OF_EACH_COMMAND: &[Row<'static>] = rows! {
+    (b"10 F.I=5TO1;P.I;N.I", b"     5\n", 0, steps = 3),
+    (b"10 F.I=32766TO32767;N.I;P.I", b" 32767\n", 0, steps = 4),
+    (b"10 GOSUB 40;P.1\n20 STOP\n40 P.2;RETURN", b"     2\n     1\n", 0, steps = 5),
+    (b"10 IF 0 NONSENSE\n20 P.2/3;", b"     0\n", 0, steps = 2),
+    (b"10 REM;P.1\n20 PRINT", b"\n", 0, steps = 2),
+    (b"10 @(16371)=1;P.@(16371)", b"     1\n", 0, memory = 32767),
+    (b"10 @(16372)=1;P.@(16372)", b"SORRY\n10 @(16372)?=1;P.@(16372)\n", 3, memory = 32767),
+    (b"210 PTINT \"THIS\"", b"WHAT?\n210 P?TINT \"THIS\"\n", 1),
+    (b"260 LET A=B+3, C=(3+4, X=4", b"WHAT?\n260 LET A=B+3, C=(3+4?, X=4\n", 1),
+    (b"380 GOTO 412", b"HOW?\n380 GOTO 412?\n", 2),
+    (b"10 PRINT 2*-3", b"WHAT?\n10 PRINT 2*?-3\n", 1),
+    (b"10 PRINT 1<2<3", b"     1\nWHAT?\n10 PRINT 1<2?<3\n", 1),
+    (b"10 P.32768", b"HOW?\n10 P.32768?\n", 2),
+    (b"10 P.\"A\",'B", b"A\nWHAT?\n10 P.\"A\",?'B\n", 1),
+    (b"10 P.#2,-123,#256,1", b"-123\nHOW?\n10 P.#2,-123,#256?,1\n", 2),
+    (b"10 RETURN", b"WHAT?\n10 RETURN?\n", 1),
+    (b"10 GOTO 10;P.1", b"WHAT?\n10 GOTO 10?;P.1\n", 1),
+    (b"10 A=1/0", b"HOW?\n10 A=1/0?\n", 2),
+    (b"10 A=B=0;P.A", b"     1\n", 0),
+    (b"10 .1", b"WHAT?\n10 ?.1\n", 1),
+    (b"10 P", b"WHAT?\n10 P?\n", 1),
+    (b"10 PRINT.", b"WHAT?\n10 PRINT?.\n", 1),
+    (b"10 I.1P.2", b"     2\n", 0),
+    (b"10 P.S.", b"  4089\n", 0),
+    (b"10 INPUT \"N", b"WHAT?\n10 INPUT ?\"N\n", 1),
+    (b"10 P.1;;P.2", b"     1\nWHAT?\n10 P.1;?;P.2\n", 1),
+    (b"10 @(32767)=1", b"SORRY\n10 @(32767)?=1\n", 3),
+};
 
 #[test]
 fn runs_of_each_command(rt: HostRuntime) -> Result<(), Fail> {
@@ -1061,33 +723,16 @@ fn runs_of_each_command(rt: HostRuntime) -> Result<(), Fail> {
     Ok(())
 }
 
-const RUNS_WITH_INPUT: &[Row<'static>] = &[
-    row!(
-        b"10 INPUT A;PRINT A",
-        b"A:RND(2)\n     1\n",
-        0,
-        input = b"RND(2)\n",
-        asked = Asked::Run(&[1])
-    ),
-    row!(b"10 INPUT A", b"A:)\nWHAT?\nA:5\n", 0, input = b")\n5\n"),
-    row!(b"10 INPUT A", b"A:)\nWHAT?\nA:5\n", 0, input = b")\n5"),
-    row!(b"10 INPUT A", b"A:)\nWHAT?\nA:", 5, input = b")\n"),
-    row!(b"10 INPUT A", b"A:", 5, input = b""),
-    row!(
-        b"10 INPUT @(RND(2))",
-        b"@(RND(2)):)\nWHAT?\n@(RND(2)):5\n",
-        0,
-        input = b")\n5\n",
-        asked = Asked::Run(&[1, 1])
-    ),
-    row!(b"10 INPUT \"N\"A,'!'", b"N:2+3 X\n!", 0, input = b"2+3 X\n"),
-    row!(
-        b"10 INPUT A;P.A",
-        b"A: 71\n    71\n",
-        0,
-        input = b"\t7\x01\x7f1\r\n"
-    ),
-];
+const RUNS_WITH_INPUT: &[Row<'static>] = rows! {
+    (b"10 INPUT A;PRINT A", b"A:RND(2)\n     1\n", 0, input = b"RND(2)\n", asked = Asked::Run(&[1])),
+    (b"10 INPUT A", b"A:)\nWHAT?\nA:5\n", 0, input = b")\n5\n"),
+    (b"10 INPUT A", b"A:)\nWHAT?\nA:5\n", 0, input = b")\n5"),
+    (b"10 INPUT A", b"A:)\nWHAT?\nA:", 5, input = b")\n"),
+    (b"10 INPUT A", b"A:", 5, input = b""),
+    (b"10 INPUT @(RND(2))", b"@(RND(2)):)\nWHAT?\n@(RND(2)):5\n", 0, input = b")\n5\n", asked = Asked::Run(&[1, 1])),
+    (b"10 INPUT \"N\"A,'!'", b"N:2+3 X\n!", 0, input = b"2+3 X\n"),
+    (b"10 INPUT A;P.A", b"A: 71\n    71\n", 0, input = b"\t7\x01\x7f1\r\n"),
+};
 
 #[test]
 fn runs_with_input(rt: HostRuntime) -> Result<(), Fail> {
@@ -1095,46 +740,15 @@ fn runs_with_input(rt: HostRuntime) -> Result<(), Fail> {
     Ok(())
 }
 
-const ANSWERS_IN_PLACE_OF_LINES: &[Row<'static>] = &[
-    row!(b"10 INPUT A;PRINT A", b"A:", 6, choose = Some(2)),
-    row!(
-        b"10 INPUT A;PRINT A",
-        b"A:",
-        7,
-        asked = Asked::Run(&[3]),
-        choose = Some(2)
-    ),
-    row!(
-        b"10 INPUT A;PRINT A",
-        b"A:2\n     2\n",
-        0,
-        asked = Asked::Run(&[2]),
-        choose = Some(2)
-    ),
-    row!(
-        b"10 INPUT A,B;PRINT A-B",
-        b"A:5\nB:9\n    -4\n",
-        0,
-        asked = Asked::Run(&[9]),
-        input = b"5\n",
-        choose = Some(9)
-    ),
-    row!(
-        b"10 INPUT A;PRINT A",
-        b"A:)\nWHAT?\nA:1\n     1\n",
-        0,
-        asked = Asked::Run(&[1]),
-        input = b")\n",
-        choose = Some(2)
-    ),
-    row!(
-        b"10 INPUT A;PRINT RND(6)",
-        b"A:3\n     5\n",
-        0,
-        asked = Asked::Seed(7),
-        choose = Some(6)
-    ),
-];
+const ANSWERS_IN_PLACE_OF_LINES: &[Row<'static>] = rows! {
+    (b"10 INPUT A;PRINT A", b"A:", 6, choose = Some(2)),
+    (b"10 INPUT A;PRINT A", b"A:", 7, asked = Asked::Run(&[3]), choose = Some(2)),
+    (b"10 INPUT A;PRINT A", b"A:2\n     2\n", 0, asked = Asked::Run(&[2]), choose = Some(2)),
+    (b"10 INPUT A,B;PRINT A-B", b"A:5\nB:9\n    -4\n", 0, asked = Asked::Run(&[9]), input = b"5\n", choose = Some(9)),
+    (b"10 INPUT A;PRINT A", b"A:)\nWHAT?\nA:1\n     1\n", 0, asked = Asked::Run(&[1]), input = b")\n",
+     choose = Some(2)),
+    (b"10 INPUT A;PRINT RND(6)", b"A:3\n     5\n", 0, asked = Asked::Seed(7), choose = Some(6)),
+};
 
 // Where no line is left an answer stands for it, from 1 to the bound.
 #[test]
@@ -1187,6 +801,30 @@ fn expect_unread_input(
     Ok(())
 }
 
+// The kinds of requests that read the input to its end first.
+const INPUT_FIRST: &[Asked<'static>] = &[
+    Asked::Chances,
+    Asked::Shares(1, Form::Two),
+    Asked::Sample(3, Form::Two),
+];
+
+// Nothing is written of a table, of lists or of a sample until the input was read to its end.
+#[test]
+fn inputs_read_first(rt: HostRuntime) -> Result<(), Fail> {
+    for &asked in INPUT_FIRST {
+        let row = row!(
+            b"10 P.RND(6)\n",
+            b"",
+            66,
+            asked = asked,
+            note = Some(Note::InputUnread)
+        );
+        expect_unread_input(&rt, rt.alloc(), &row, b"5\n")?;
+        expect_endless_input(&rt, rt.alloc(), &row)?;
+    }
+    Ok(())
+}
+
 // A line is read only when it is asked for, and what was shown before stays. An answer doesn't
 // stand for a line that can't be read.
 #[test]
@@ -1200,24 +838,34 @@ fn unread_inputs(rt: HostRuntime) -> Result<(), Fail> {
     Ok(())
 }
 
+// A row whose input is endless can't read it.
+fn expect_endless_input(rt: &impl Abort, alloc: Global, row: &Row<'_>) -> Result<(), AllocError> {
+    let request = request_of(alloc, row)?;
+    let (reply, given) = reply_on_endless_input(alloc, &request, row.program, 1);
+    expect_reply(rt, reply, (66, Some(Note::InputUnread)), row.bytes);
+    expect_same(rt, given <= 16_777_217, true);
+    Ok(())
+}
+
 #[test]
 fn endless_inputs(rt: HostRuntime) -> Result<(), Fail> {
-    let row = row!(b"10 INPUT A\n", b"A:", 66);
-    let request = request_of(rt.alloc(), &row)?;
-    let (reply, given) = reply_on_endless_input(rt.alloc(), &request, row.program, 1);
-    expect_reply(&rt, reply, (66, Some(Note::InputUnread)), b"A:");
-    expect_same(&rt, given <= 16_777_217, true);
+    expect_endless_input(&rt, rt.alloc(), &row!(b"10 INPUT A\n", b"A:", 66))?;
+    Ok(())
+}
+
+// A row is served without reading its input, which is endless.
+fn expect_no_reading(rt: &impl Abort, alloc: Global, row: &Row<'_>) -> Result<(), AllocError> {
+    let request = request_of(alloc, row)?;
+    let (reply, given) = reply_on_endless_input(alloc, &request, row.program, 3);
+    expect_reply(rt, reply, (row.status, None), row.bytes);
+    expect_same(rt, given, 0);
     Ok(())
 }
 
 // A program that asks for no line takes none.
 #[test]
 fn inputs_not_asked_for(rt: HostRuntime) -> Result<(), Fail> {
-    let row = row!(b"10 PRINT \"HI\"\n", b"HI\n", 0);
-    let request = request_of(rt.alloc(), &row)?;
-    let (reply, given) = reply_on_endless_input(rt.alloc(), &request, row.program, 1);
-    expect_reply(&rt, reply, (0, None), b"HI\n");
-    expect_same(&rt, given, 0);
+    expect_no_reading(&rt, rt.alloc(), &row!(b"10 PRINT \"HI\"\n", b"HI\n", 0))?;
     Ok(())
 }
 
