@@ -3,7 +3,7 @@
 
 use crate::tests::shared::{Row, expect_rows, expect_same, table};
 use crate::tests::sink::make_sink;
-use ptb_explore::ReportWriter;
+use ptb_explore::{Parts, ReportWriter};
 use ptb_expr::{Asked, Form};
 use ptb_text::{ByteSink, Device, DeviceFault};
 use std::alloc::{AllocError, Global};
@@ -47,7 +47,14 @@ fn write_to<T: ByteSink + Drop>(
         let (answer, bound) = (answers[k], bounds[k]);
         asked[k] = Asked { answer, bound };
     }
-    reports.write(&mut out, form, &asked[..count], word, steps, shown)
+    let report = Parts {
+        form,
+        asked: &asked[..count],
+        word,
+        steps,
+        transcript: shown,
+    };
+    reports.write(&mut out, &report)
 }
 
 // Whether the room holds a text, and nothing after it.
@@ -218,7 +225,14 @@ fn write_long(
         bound: last,
     };
     let (mut out, shown) = (Device::new(taken), &[b'A'; 4097][..size]);
-    reports.write(&mut out, Form::One, &asked[..count], b"END", 7, shown)
+    let report = Parts {
+        form: Form::One,
+        asked: &asked[..count],
+        word: b"END",
+        steps: 7,
+        transcript: shown,
+    };
+    reports.write(&mut out, &report)
 }
 
 fn is_long_run_written(alloc: Global, reports: &mut ReportWriter, run: &LongRun) -> bool {

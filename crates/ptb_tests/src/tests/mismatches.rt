@@ -1,9 +1,9 @@
 // This file tests why the items of a list are no run, or why no run begins with them.
 
-use crate::tests::explorers::{BRANCHES, Runs, open_fault};
+use crate::tests::explorers::{BRANCHES, Runs, explorer_of, open_fault};
 use crate::tests::shared::{
     FOUR, FOUR_OF_4, ONE, ONE_OF_2, ONE_OF_3, OUT_OF_MEMORY, Row, THREE, THREE_OF_3, TWO, TWO_OF_2,
-    TWO_OF_3, ZERO, expect_rows, expect_same, loaded, table,
+    TWO_OF_3, ZERO, expect_rows, expect_same, loaded, rules, table,
 };
 use ptb_explore::{Marked, Mismatch, OpenFault};
 use ptb_text::Program;
@@ -76,11 +76,26 @@ const BEGINNINGS: &[Lists] = table! { Lists:
     (&[TWO], &[TWO, ONE], None, None),
     (&[TWO], &[ONE], None, Some(Mismatch::NotUnder)),
     (&[TWO, ONE], &[TWO, THREE], None, Some(Mismatch::NotUnder)),
-    // the bounds of the list that it begins with are not checked
-    (&[TWO_OF_3], &[TWO, ONE], None, None),
+    (&[TWO_OF_2], &[TWO, ONE], None, None),
 };
 
-// How a list begins is looked at before its items are: nothing is played then.
+// A list with which no run begins, for this reason, which is found before the other list is looked at.
+struct NoBeginning(&'static [Marked], &'static [Marked], Mismatch);
+
+impl Row<Branches> for NoBeginning {
+    fn holds(&self, context: &Branches) -> bool {
+        let NoBeginning(under, list, why) = *self;
+        open_fault(context.0, &context.1, Runs::UnderAfter(under, list))
+            == Some(OpenFault::NoBeginning(why))
+    }
+}
+
+const NO_BEGINNINGS: &[NoBeginning] = table! { NoBeginning:
+    (&[TWO_OF_3], &[TWO, ONE], Mismatch::OtherBound { item: 1, stated: 3, bound: 2 }),
+    (&[THREE], &[ONE], Mismatch::OutOfRange { item: 1, answer: 3, bound: 2 }),
+};
+
+// How a list begins is looked at before its items are.
 const OTHER_BEGINNINGS: &[Lists] = table! { Lists:
     (&[TWO], &[THREE], Some(Mismatch::OutOfRange { item: 1, answer: 3, bound: 2 }), Some(Mismatch::NotUnder)),
     (&[TWO], &[ONE, ONE], Some(Mismatch::NoQuestion { items: 1 }), Some(Mismatch::NotUnder)),
@@ -118,6 +133,7 @@ fn mismatches(rt: HostRuntime) -> Result<(), Fail> {
         &context,
         OTHER_BEGINNINGS,
     );
+    expect_rows(&rt, "no beginnings", &context, NO_BEGINNINGS);
     expect_rows(&rt, "answers", &context, ANSWERS);
     Ok(())
 }
@@ -128,7 +144,16 @@ fn is_refused(alloc: Global, program: &Program, runs: Runs<'_>, why: OpenFault) 
     fault == Some(why) || fault == Some(OpenFault::Memory)
 }
 
-// Whether lists that do not fit are refused, the last of them without any memory.
+// Whether a list that begins otherwise than the runs of an explorer is refused, without any memory.
+fn is_refused_later(alloc: Global, program: &Program) -> bool {
+    let other = OpenFault::NotARun(Mismatch::NotUnder);
+    match explorer_of(alloc, program, &[], rules(10000, None), Runs::Under(&[TWO])) {
+        Ok(explorer) => explorer.go_to(&[ONE]).err() == Some(other),
+        Err(why) => why == OpenFault::Memory,
+    }
+}
+
+// Whether lists that do not fit are refused.
 fn are_refused(alloc: Global, program: &Program) -> bool {
     let range = Mismatch::OutOfRange {
         item: 2,
@@ -136,14 +161,13 @@ fn are_refused(alloc: Global, program: &Program) -> bool {
         bound: 3,
     };
     let missing = OpenFault::NotARun(Mismatch::Missing { item: 2, bound: 3 });
-    let other = OpenFault::NotARun(Mismatch::NotUnder);
     is_refused(
         alloc,
         program,
         Runs::Under(&[TWO, FOUR]),
         OpenFault::NoBeginning(range),
     ) && is_refused(alloc, program, Runs::UnderAfter(&[TWO], &[TWO]), missing)
-        && open_fault(alloc, program, Runs::UnderAfter(&[TWO], &[ONE])) == Some(other)
+        && is_refused_later(alloc, program)
 }
 
 // Passes whichever of its allocations is refused.
