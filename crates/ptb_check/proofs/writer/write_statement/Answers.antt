@@ -83,3 +83,14 @@ commands-preserved g c =
           c.commands.invariant.written
           (c.in_ok-any.ensures.writes i (translated g here));
     }
+
+-- and its place is ahead
+pub commands-smaller : goal.commands-smaller
+commands-smaller g c =
+    let u = c.commands.cursor.text in
+    let over = sym c.at_end.ensures ∙ c.commands-test.true in
+    let ahead = next_ahead c.command_laws.ensures u c.commands.cursor.place c.in-Some.next
+    (c.translate-next.ensures.next over ∙ c.in-Some.is) in
+    let to : c.go_to.new.self.place ≡ c.in-Some.next = ap (λ (v : CursorState). v.place) c.go_to.ensures in
+    let same : length u ≡ length c.args.text.now = ap length c.commands.invariant.text in
+    omega (arith, ahead.after, ahead.within, to, same)
