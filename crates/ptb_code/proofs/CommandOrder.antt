@@ -137,19 +137,15 @@ module _ (finding : FindingLaws) (spelling : SpellingLaws) (t : List ℕ) where
 
   -- ---- ends
 
+  check_on : (i : ℕ) (b : Bool) → EndsOn t i (cond b (Whole [] i) (defect i))
+  check_on i true = stays t i
+  check_on i false = tt
+
   end_on : (i : ℕ) → EndsOn t i (end_check t i)
-  end_on i = by_end (command_ends t i)
-    where
-      by_end : (b : Bool) → EndsOn t i (cond b (Whole [] i) (defect i))
-      by_end true = stays t i
-      by_end false = tt
+  end_on i = check_on i (command_ends t i)
 
   over_on : (i : ℕ) → EndsOn t i (over_check t i)
-  over_on i = by_end (is_over t i)
-    where
-      by_end : (b : Bool) → EndsOn t i (cond b (Whole [] i) (defect i))
-      by_end true = stays t i
-      by_end false = tt
+  over_on i = check_on i (is_over t i)
 
   -- ---- LET and INPUT
 

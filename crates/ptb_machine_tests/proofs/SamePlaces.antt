@@ -160,28 +160,31 @@ numbered n t = Some (n, t)
 number_there : (k n : ℕ) (t u : List ℕ) → numbered k t ≡ numbered n u → k ≡ n
 number_there k n t u e = ap (λ (o : Option (ℕ × List ℕ)). elim o [ Some x ↦ x.0 | None ↦ k ]) e
 
+-- a place in the first programs that is one in the second, found at the statement i with the number k
+same_number : (i k : ℕ) (q : Place) (m : Location) → k ≡ q.number → m.statement ≡ i
+    → slice_get printing i ≡ numbered k (text_of printing k) → At (text_of printing k) q.index m.at
+    → PlaceIs printing q m
+same_number i k q m n e found at = record {
+  statement = ap (slice_get printing) e
+      ∙ subst (λ (k : ℕ). slice_get printing i ≡ numbered k (text_of printing k)) n found;
+  at = subst (λ (k : ℕ). At (text_of printing k) q.index m.at) n at;
+}
+
 there : (q : Place) (m : Location) → PlaceIs counting q m → PlaceIs printing q m
 there q m is = by_statement m.statement refl
   where
+    before : (k : ℕ) → k ≡ q.number → At (text_of counting k) q.index m.at
+    before k n = subst (λ (k : ℕ). At (text_of counting k) q.index m.at) (sym n) is.at
+
     by_statement : (i : ℕ) → m.statement ≡ i → PlaceIs printing q m
     by_statement zero e =
         let n : 10 ≡ q.number = number_there 10 q.number adds (text_of counting q.number)
         (sym (ap (slice_get counting) e) ∙ is.statement) in
-        record {
-          statement = ap (slice_get printing) e
-              ∙ subst (λ (k : ℕ). slice_get printing 0 ≡ numbered k (text_of printing k)) n refl;
-          at = subst (λ (k : ℕ). At (text_of printing k) q.index m.at) n
-              (print_there q.index m.at (subst (λ (k : ℕ). At (text_of counting k) q.index m.at) (sym n) is.at));
-        }
+        same_number 0 10 q m n e refl (print_there q.index m.at (before 10 n))
     by_statement (suc zero) e =
         let n : 20 ≡ q.number = number_there 20 q.number jumps (text_of counting q.number)
         (sym (ap (slice_get counting) e) ∙ is.statement) in
-        record {
-          statement = ap (slice_get printing) e
-              ∙ subst (λ (k : ℕ). slice_get printing 1 ≡ numbered k (text_of printing k)) n refl;
-          at = subst (λ (k : ℕ). At (text_of printing k) q.index m.at) n
-              (subst (λ (k : ℕ). At (text_of counting k) q.index m.at) (sym n) is.at);
-        }
+        same_number 1 20 q m n e refl (before 20 n)
     by_statement (suc (suc i)) e =
         absurd (none_there i q.number (text_of counting q.number) (sym (ap (slice_get counting) e) ∙ is.statement))
       where
