@@ -3,4 +3,4 @@ use Rattle.ptb_machine.specs.Steps.{FitsProgram}
 use Rattle.ptb_machine_tests.proofs.tests.machines.expect_steps.Given as goal
 
 abbrev pub invariant-rows : goal.invariant-rows
-invariant-rows g l = FitsProgram l.program.now l.machine
+invariant-rows g l = FitsProgram l.program l.machine
