@@ -4,7 +4,7 @@
 //! done one after the other by their short forms (`advance.rt`).
 //!
 //! It depends on `ptb_command`, `ptb_code`, `ptb_devices`, `ptb_expr`, `ptb_answers`, `ptb_text`,
-//! `arrayvec`, `itoa`, `thiserror` and `rand_pcg`. The crate above may rely on `Machine::step` (one
+//! `itoa`, `thiserror` and `rand_pcg`. The crate above may rely on `Machine::step` (one
 //! turn of `specs/Play`: the state after it, what it shows, the lines and answers it takes), on
 //! `Player::step` (the same by the code of the program, without its text), on `Player::advance`
 //! (some turns that touch no device), on `run` (all turns), on `run_to_end` (the same, and the line

@@ -1,15 +1,14 @@
 // This file reports a fault.
 
-ghost use Rattle.std.specs.Prelude.{◌≡◌, ◌++◌, take, drop, IfOk};
+ghost use Rattle.std.specs.Prelude.{◌≡◌, ◌++◌, take, drop, IfSome};
 ghost use Rattle.ptb_machine.specs.Prelude.{Cells, ending_of, report_bytes, Devices, screen_state, with_screen, trace};
 ghost use Rattle.ptb_machine.specs.Prelude.{IsShown};
 
-use arrayvec::{ArrayVec, CapacityError};
 use itoa::Buffer;
 use ptb_command::{Ending, fault_line, put};
 use ptb_devices::Screen;
 use ptb_expr::{Fault, FaultKind};
-use ptb_text::DeviceFault;
+use ptb_text::{ByteBuffer, DeviceFault};
 
 /// How many bytes are put together, so that they are shown at once: a statement's text has at most
 /// 255.
@@ -41,18 +40,12 @@ fn text_after(text: &[u8], mark: usize) -> &[u8]
 }
 
 // Three pieces, one after the other, where there is room for them.
-fn joined(
-    first: &[u8],
-    second: &[u8],
-    third: &[u8],
-) -> Result<ArrayVec<u8, JOIN_LIMIT>, CapacityError>
-    ensures { IfOk result (λ v. v.items ≡ first.now ++ second.now ++ third.now) }
+fn joined(first: &[u8], second: &[u8], third: &[u8]) -> Option<ByteBuffer<JOIN_LIMIT>>
+    ensures { IfSome result (λ bytes. bytes ≡ first.now ++ second.now ++ third.now) }
 {
-    let mut bytes = ArrayVec::new();
-    bytes.try_extend_from_slice(first)?;
-    bytes.try_extend_from_slice(second)?;
-    bytes.try_extend_from_slice(third)?;
-    Ok(bytes)
+    let mut bytes = ByteBuffer::new();
+    let is_whole = bytes.try_append(first) && bytes.try_append(second) && bytes.try_append(third);
+    is_whole.then_some(bytes)
 }
 
 // Shows three pieces: at once, where there is room for them.
@@ -68,7 +61,7 @@ fn put_joined<S: Screen>(
         (trace (with_screen (screen_state S.Screen screen.new) d) fresh.new cells)
         (first.now ++ second.now ++ third.now) result }
 {
-    if let Ok(bytes) = joined(first, second, third) {
+    if let Some(bytes) = joined(first, second, third) {
         return put(screen, fresh, bytes.as_slice());
     }
     put(screen, fresh, first)?;

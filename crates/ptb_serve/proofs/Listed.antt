@@ -326,14 +326,14 @@ module _ (mode : Mode) (no_check : IsCheck mode → ⊥) (request : Request) (p 
       → IsErrOf result notes.OutOfMemory → StopsForMemory mode request b c old new)
       → SilentBy mode (outcome_of result).note old new → OnOk result (result ≡ Ok 0)
       → (IsUnloaded (outcome_of result).note → ⊥) → ServesProgram mode request p i j old new result
-  serves_mode served taken unread stopped quiet reply_with loaded = record {
+  serves_mode served taken unread stopped quiet success loaded = record {
     served = served;
     taken = λ b _. taken b;
     unread = λ b _. unread b;
     silent = quiet;
     stopped = stopped;
-    status = zero_within result reply_with;
-    reply_with = λ _ _. reply_with;
+    status = zero_within result success;
+    success = λ _ _. success;
     checked = λ x. absurd (no_check x);
     loaded = loaded;
   }
@@ -405,10 +405,10 @@ module _ (request : Request) (p : StoredProgram) (memory : p.memory ≡ request.
       → SilentBy modes.List (outcome_of result).note old new
       → OnOk result (result ≡ Ok 0) → (IsUnloaded (outcome_of result).note → ⊥)
       → ServesProgram modes.List request p i i old new result
-  text_serves old new served quiet reply_with loaded =
+  text_serves old new served quiet success loaded =
       serves_mode modes.List (λ x. x) request p i i old new result
       (λ b c l is. serves_loaded request.memory (Some b) listing_reply p old new result l memory served)
-      (λ b. nothing_told i) (λ b x. absurd (fine x)) (λ b c _ _ _. tt) quiet reply_with loaded
+      (λ b. nothing_told i) (λ b x. absurd (fine x)) (λ b c _ _ _. tt) quiet success loaded
 
 -- ---- an input that is left alone
 

@@ -3,8 +3,8 @@ use Rattle.std.proofs.Common.{◌∙◌, ◌++◌, refl}
 use Rattle.ptb_command.proofs.ShownPieces.{shown_then, unshown_first, three_shown, shown_same}
 use Rattle.ptb_machine.proofs.reports.put_joined.Goals as goal
 
-pub returns-in-Ok : goal.returns-in-Ok
-returns-in-Ok g c d cells = shown_same _ _ _ _ _ (c.as_slice.ensures.value ∙ c.in-Ok.ensures) (c.put.ensures d cells)
+pub returns-in-Some : goal.returns-in-Some
+returns-in-Some g c d cells = shown_same _ _ _ _ _ (c.as_slice.ensures ∙ c.in-Some.ensures) (c.put.ensures d cells)
 
 pub returns-in_err-put : goal.returns-in_err-put
 returns-in_err-put g c d cells =
