@@ -209,16 +209,6 @@ enum Failing {
     TakesNothing,
 }
 
-impl Failing {
-    fn result(self) -> io::Result<usize> {
-        match self {
-            Failing::Breaks => Err(io::Error::from(ErrorKind::BrokenPipe)),
-            Failing::IsInterrupted => Err(io::Error::from(ErrorKind::Interrupted)),
-            Failing::TakesNothing => Ok(0),
-        }
-    }
-}
-
 // Takes at most five bytes a call, until it fails at a call.
 #[derive(Drop)]
 struct Sink {
@@ -229,10 +219,14 @@ struct Sink {
 
 impl ByteSink for &mut Sink {
     fn write(&mut self, buf: &[u8]) -> io::Result<usize> {
-        match self.calls_left.checked_sub(1) {
-            Some(left) => self.calls_left = left,
-            None => return self.failing.result(),
-        }
+        let Some(left) = self.calls_left.checked_sub(1) else {
+            return match self.failing {
+                Failing::Breaks => Err(io::Error::from(ErrorKind::BrokenPipe)),
+                Failing::IsInterrupted => Err(io::Error::from(ErrorKind::Interrupted)),
+                Failing::TakesNothing => Ok(0),
+            };
+        };
+        self.calls_left = left;
         let count = buf.len().min(5);
         self.taken.extend_from_slice(&buf[..count])?;
         Ok(count)

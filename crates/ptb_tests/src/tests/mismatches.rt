@@ -1,9 +1,9 @@
 // This file tests why the items of a list are no run, or why no run begins with them.
 
-use crate::tests::explorers::{BRANCHES, Runs, explorer_of, open_fault};
+use crate::tests::explorers::{BRANCHES, Runs, open_fault};
 use crate::tests::shared::{
     FOUR, FOUR_OF_4, ONE, ONE_OF_2, ONE_OF_3, OUT_OF_MEMORY, Row, THREE, THREE_OF_3, TWO, TWO_OF_2,
-    TWO_OF_3, ZERO, expect_rows, expect_same, loaded, rules, table,
+    TWO_OF_3, ZERO, expect_rows, expect_same, loaded, table,
 };
 use ptb_explore::{Marked, Mismatch, OpenFault};
 use ptb_text::Program;
@@ -144,38 +144,31 @@ fn is_refused(alloc: Global, program: &Program, runs: Runs<'_>, why: OpenFault) 
     fault == Some(why) || fault == Some(OpenFault::Memory)
 }
 
-// Whether a list that begins otherwise than the runs of an explorer is refused, without any memory.
-fn is_refused_later(alloc: Global, program: &Program) -> bool {
-    let other = OpenFault::NotARun(Mismatch::NotUnder);
-    match explorer_of(alloc, program, &[], rules(10000, None), Runs::Under(&[TWO])) {
-        Ok(explorer) => explorer.go_to(&[ONE]).err() == Some(other),
-        Err(why) => why == OpenFault::Memory,
-    }
-}
-
-// Whether lists that do not fit are refused.
-fn are_refused(alloc: Global, program: &Program) -> bool {
+// Whether lists that do not fit are refused, unless memory for the program is.
+fn are_refused(alloc: Global) -> bool {
+    let (program, lines) = match loaded(alloc, BRANCHES, "") {
+        Ok(both) => both,
+        Err(why) => return why == OUT_OF_MEMORY,
+    };
     let range = Mismatch::OutOfRange {
         item: 2,
         answer: 4,
         bound: 3,
     };
     let missing = OpenFault::NotARun(Mismatch::Missing { item: 2, bound: 3 });
+    let other = OpenFault::NotARun(Mismatch::NotUnder);
     is_refused(
         alloc,
-        program,
+        &program,
         Runs::Under(&[TWO, FOUR]),
         OpenFault::NoBeginning(range),
-    ) && is_refused(alloc, program, Runs::UnderAfter(&[TWO], &[TWO]), missing)
-        && is_refused_later(alloc, program)
+    ) && is_refused(alloc, &program, Runs::UnderAfter(&[TWO], &[TWO]), missing)
+        && is_refused(alloc, &program, Runs::UnderAfter(&[TWO], &[ONE]), other)
+        && lines.is_empty()
 }
 
 // Passes whichever of its allocations is refused.
 #[test]
 fn refused_mismatches(rt: HostRuntime) {
-    let is_right = match loaded(rt.alloc(), BRANCHES, "") {
-        Ok((program, _)) => are_refused(rt.alloc(), &program),
-        Err(why) => why == OUT_OF_MEMORY,
-    };
-    expect_same(&rt, "refused lists", is_right, true);
+    expect_same(&rt, "refused lists", are_refused(rt.alloc()), true);
 }
