@@ -23,7 +23,7 @@ awk 'BEGIN {
         else print "(A+" k % 31 ")/2*" k % 7 " > A-" k % 11
 }' >"$room/expressions"
 
-# the statuses of a run that ends for want of a line
+# the statuses of a run that ends for lack of a line
 by_ptb() { "$1" --steps 1000000 "$room/input.bas" <"$2" || [ $? = 5 ]; }
 by_c() { "$room/input" <"$1"; }
 

@@ -1,5 +1,5 @@
 #!/bin/sh
-# Times the lower crates through their public calls: expressions worked out, and texts of 1 MiB loaded.
+# Times the lower crates through their public calls: evaluated expressions, and texts of 1 MiB that are loaded.
 # It builds a small program over copies of the crates, in a folder of its own, and shows the best of five runs.
 set -eu
 root=$(dirname "$(readlink -f "$0")")/..
@@ -16,7 +16,7 @@ cp "$root/HANDLES" "$room/"
 git init -q "$room"
 
 cat >"$room/crates/parts/src/main.rt" <<'END'
-// This file works expressions out and loads a text, again and again, and tells what that takes.
+// This file evaluates expressions and loads a text, again and again, and prints the time of each.
 #![tactic(auto)]
 
 use ptb_expr::{Listed, Steps, Stop, Store, evaluate_in};
@@ -47,7 +47,7 @@ fn sum(text: &[u8], store: &Store) -> Result<i64, Stop> {
     Ok(sum)
 }
 
-// Loads a text, and tells what that takes.
+// Loads a text, and prints the time that it takes.
 fn time_loading(rt: &HostRuntime, name: &str, text: &[u8]) -> io::Result<()> {
     let start = Instant::now(rt)?;
     let mut reader = Device::new(text);

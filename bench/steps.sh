@@ -94,7 +94,7 @@ row() {
             if [ "$other" = ptb ]; then
                 due=$(result)
             elif [ "$(result)" != "$due" ]; then
-                echo "$title: $other comes to $(result), and ptb to $due" >&2
+                echo "$title: $other prints $(result), and ptb $due" >&2
                 exit 1
             fi
         done

@@ -5,7 +5,7 @@
 # rounds, and beside them those of another build of ptb where one is named, in turn with it. Then the seconds of a tree whose first thousand
 # commands are the same in all of its 100,000 runs, and the runs a second and the memory of trees of 1,000, 100,000 and 1,000,000 runs, also
 # of a program that has all the memory there can be and fills the array. At last a tree of 1,000,000 runs by one process, by shares on
-# all cores, and as often as there are cores, side by side, which tells what the cores do together.
+# all cores, and as often as there are cores, side by side, which shows what the cores do together.
 set -eu
 root=$(dirname "$(readlink -f "$0")")/..
 program=$root/crates/ptb/out/ptb

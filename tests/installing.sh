@@ -457,7 +457,7 @@ count_same 'the outcomes are shown without it' "$(cd / && env -i "PATH=$PATH" "$
     '2 runs, 1 ending
 100.00 %  1  ##############################  END, 2 runs
 
-Answers count as equally likely, also those that --choose gives in place of lines.'
+Answers count as equally likely, also those that --choose gives instead of lines.'
 head -c 40 "$folder/runs" >"$folder/killed"
 count_same 'a listing that was killed is resumed' \
     "$(PATH=$place/bin:$PATH ptb-resume "$folder/killed" -- ptb --all "$folder/coin.bas" </dev/null 2>&1; echo $?)" 0

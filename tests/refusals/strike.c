@@ -3,10 +3,10 @@
 // "refuse 7":
 //
 //     refuse   the allocation fails
-//     deplete  the allocation fails, and so do all behind it
+//     deplete  the allocation fails, and so do all after it
 //     cut      the read or write of two bytes or more moves one
 //     fail     the read or write fails
-//     starve   a file can't be opened, for want of memory
+//     starve   a file can't be opened, for lack of memory
 //
 // Where a call is struck, the file whose name the variable STRUCK holds gets a letter and the number of the open file:
 // A for an allocation, O for opening, R for a read, W for a write. There are no headers, so that any C compiler will do.

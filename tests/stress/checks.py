@@ -448,14 +448,14 @@ def check_joined_shares(trial, lines):
 
 
 def check_plain(trial, report, listing):
-    """A report tells what a plain run with its answers writes and ends with, within the limit."""
+    """A report shows what a plain run with its answers writes and ends with, within the limit."""
     trial.expect("a plain run of a report", trial.plain(report.answers), *due_of(report))
     seen = (trial.runs(), f"the report of {spelled(report.answers)}")
     at_limit = report.ending == "LIMIT"
     is_within = report.steps == trial.case.steps if at_limit else report.steps <= trial.case.steps
     trial.hold("steps within their limit", is_within, seen)
     if report.ending in FAULTS:
-        trial.hold("a fault shows its statement", is_fault_told(report, listing), seen)
+        trial.hold("a fault shows its statement", is_fault_reported(report, listing), seen)
     if report.ending == "NOINPUT":
         trial.hold("a prompt is shown where a line is missing", report.transcript.endswith(b":"), seen)
 
@@ -503,7 +503,7 @@ def due_of(report):
     return calls.ENDINGS[report.ending], report.transcript
 
 
-def is_fault_told(report, listing):
+def is_fault_reported(report, listing):
     """Whether the transcript ends with a line of the fault's word and a line of the listing with a `?` put in."""
     *_, word, line, rest = [b"", b"", *report.transcript.split(b"\n")]
     return word == FAULTS[report.ending] and rest == b"" and is_marked(line, listing)
@@ -569,7 +569,7 @@ def check_far_run(trial, listing):
 
 
 def far_run(trial):
-    """A run whose first answers are chosen by chance, but for bad ones; None where it is too long to look for."""
+    """A run whose first answers are chosen by chance, except bad ones; None where it is too long to look for."""
     answers = ()
     for _ in range(5):
         guess = trial.chance.choice([1, 2, 2, 3, 3, 4, 6])
@@ -612,7 +612,7 @@ def check_input(trial, write, report):
 
 
 def check_lines_of_answers(trial, write, report):
-    """No run ends for want of a line. Where RND isn't asked, answers are as lines with the same digits."""
+    """No run ends for lack of a line. Where RND isn't asked, answers are as lines with the same digits."""
     trial.hold("no line is missing", report.ending != "NOINPUT", (trial.runs(), "the first report"))
     lines = b"".join(b"%d\n" % answer for answer in report.answers)
     write("lines.txt", cleaned(trial.case.input) + lines)

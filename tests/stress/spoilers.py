@@ -94,7 +94,7 @@ SPOILERS = {
     "forgets the last byte of a plain run": in_plain_runs(lambda reply: replace(reply, output=reply.output[:-1])),
     "answers status 0 always": with_status(0, lambda reply: True),
     "takes a bad answer for none": with_status(6, lambda reply: reply.status == 7),
-    "crashes in place of SORRY": with_status(-11, lambda reply: reply.status == 3),
+    "crashes instead of SORRY": with_status(-11, lambda reply: reply.status == 3),
     "says nothing on standard error": lambda call, reply: replace(reply, errors=b""),
     "does not say why a list fits no run": lambda call, reply: (
         replace(reply, errors=reply.errors.split(b"\n")[0] + b"\n") if reply.status == 67 else reply

@@ -25,7 +25,7 @@ class Case:
     input: bytes
     steps: int
     memory: int
-    choose: int  # the bound of answers in place of lines; 0 where none come
+    choose: int  # the bound of answers instead of lines; 0 if there are none
 
 
 def case_of(seed, number):

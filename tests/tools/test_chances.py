@@ -12,7 +12,7 @@ from listings import Reply, outcomes
 
 PARTIAL, USAGE, BAD_INPUT = 3, 64, 65
 
-EVEN_ANSWERS = "\nAnswers count as equally likely, also those that --choose gives in place of lines.\n"
+EVEN_ANSWERS = "\nAnswers count as equally likely, also those that --choose gives instead of lines.\n"
 ROLLS = b"CHANCE 2/3 2 END 1\n1\nCHANCE 1/6 1 END 1\n2\nCHANCE 1/6 1 LIMIT 1\n1\n"
 BY_LINE = f"""4 runs, 2 last lines
  83.33 %  5/6  ##############################  1, 3 runs

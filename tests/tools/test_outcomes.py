@@ -34,7 +34,7 @@ DICE_TABLE = """4 runs, 4 outcomes
  16.67 %  1/6  ##########                      END, 1 run
     |      3
 
-Answers count as equally likely, also those that --choose gives in place of lines.
+Answers count as equally likely, also those that --choose gives instead of lines.
 """
 EVEN_ANSWERS = DICE_TABLE[DICE_TABLE.index("\nAnswers") :]
 BY_ENDING = """5 runs, 3 endings

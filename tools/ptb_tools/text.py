@@ -17,7 +17,7 @@ MOST_COLUMNS = 8  # of a table of two ways, and so many characters above each:
 WIDTH_OF_A_HEAD = 24
 NOTHING_SHOWN = "(nothing is shown)"
 # Reports don't distinguish the answers to RND from those of --choose, so this is said of both.
-EVEN_ANSWERS = "Answers count as equally likely, also those that --choose gives in place of lines."
+EVEN_ANSWERS = "Answers count as equally likely, also those that --choose gives instead of lines."
 SAMPLED = "These runs are sampled: in 95 of 100 samples the interval contains the true chance."
 TWO_WAYS = "Each number is the {} of its row and its column together."
 

@@ -1,4 +1,4 @@
--- This file proves what comes of the steps of a play, in each state for which the machine stands.
+-- This file proves what the steps of a play result in, in each state that the machine represents.
 -- Main lemma: `step_plays`.
 use Rattle.std.proofs.Common.{◌≡◌, ℕ, ◌-◌, ◌≤◌, List, [], ◌∷◌, ◌++◌, zero, suc, true, false, Option}
 use Rattle.std.proofs.Common.{Some, None, Result, Ok, Err, ℤ, inl, inr, refl, sym, ap, subst, ◌∙◌}

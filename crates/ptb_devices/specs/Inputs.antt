@@ -194,6 +194,6 @@ fault_at Ended = None
 fault_at Failed = Some Read
 fault_at Exceeded = Some TooLong
 
--- after a fault the input stands so that it answers that fault again; it never takes memory
+-- after a fault the input gives that fault again, and never takes memory
 abbrev pub Refuses : InputEnd → DeviceFault → Type 0
 Refuses end fault = fault_at end ≡ Some fault

@@ -1,4 +1,4 @@
--- This file proves which words a reading of a list takes: what stands between its commas.
+-- This file proves which words a reading of a list takes: what is between its commas.
 -- Main lemma: `words_of`.
 use Rattle.std.proofs.Common.{◌≡◌, ◌∙◌, ap, ℕ, true, List, lit<}
 use Rattle.std.specs.Prelude.{◌==◌}

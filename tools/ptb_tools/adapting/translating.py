@@ -59,7 +59,7 @@ class Translator:
     # ---- expressions
 
     def expanded(self, tree: object, depth: int = 0) -> object:
-        """The tree with the expressions of the functions that DEF defines in place of their calls."""
+        """The tree with the expressions of the functions that DEF defines instead of their calls."""
         functions = self.storage.functions
         if depth > 20:
             raise ByHand("a function that calls itself")

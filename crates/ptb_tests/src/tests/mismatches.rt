@@ -138,7 +138,7 @@ fn mismatches(rt: HostRuntime) -> Result<(), Fail> {
     Ok(())
 }
 
-// Whether there is no explorer for this reason, or for want of memory.
+// Whether there is no explorer for this reason, or for lack of memory.
 fn is_refused(alloc: Global, program: &Program, runs: Runs<'_>, why: OpenFault) -> bool {
     let fault = open_fault(alloc, program, runs);
     fault == Some(why) || fault == Some(OpenFault::Memory)

@@ -31,7 +31,7 @@ steps-init c =
           (seeded_choices chooser) c.args.machine.now taken kept (c.requires.first input c.args.rules.choose));
     }
 
--- the machine stands where the play is, after it advanced
+-- the machine is where the play is, after it advanced
 advances : (c : After-advance)
     → IsRunPrefix c.advance.new.self c.args.lines.now c.args.rules (seeded_choices c.steps.chooser) c.steps.screen
     (drop c.steps.source.taken c.steps.source.lines) c.advance.new.machine

@@ -23,7 +23,7 @@ taken_length : (r : Recorder) → length (recorder_choices r).taken ≡ length (
 taken_length r = length-take-le (length (given_bounds r)) (recorded r)
     (omega (arith, r.bounded, (recorded_len r), (given_len r)))
 
--- the machine stands where the play is, after it advanced
+-- the machine is where the play is, after it advanced
 advances : (c : After-advance)
     → IsRunPrefix c.advance.new.self c.args.source.now.lines c.args.self.now.rules
     (recorder_choices c.loop-ending.self.trial)
