@@ -36,7 +36,8 @@ run_miss (Ok ending) = step_miss (Ok (Some ending))
 run_miss (Err fault) = step_miss (Err fault)
 
 pub record IsCompleteRun {C S L : Type 0} (chooser : choosers.Ghosts C) (screen : screens.Ghosts S)
-    (source : sources.Ghosts L) (p : StoredProgram) (rules : Rules) (o n : RunDevices C S L) (r : Result Ending RunFault) : Type 0 where
+    (source : sources.Ghosts L) (p : StoredProgram) (rules : Rules) (o n : RunDevices C S L)
+    (r : Result Ending RunFault) : Type 0 where
   -- the lines that the source gave
   pub given : List (List ℕ)
   pub gives : source.gives o.source given n.source

@@ -75,14 +75,17 @@ const ENDS: &[(&str, u32, Ending, &[u8])] = table! {
     // PRINTs: strings, `_`, widths, values, an open line, an empty one, and one with many items
     ("10 F.I=1TO4;P.I,\"HELLO, WORLD\",#1,I/2,' ',#9,-I,_,\"X\";N.I\n",
      9, Ending::End,
-     b"     1HELLO, WORLD0        -1\rX\n     2HELLO, WORLD1        -2\rX\n     3HELLO, WORLD1        -3\rX\n     4HELLO, WORLD2        -4\rX\n"),
+     b"     1HELLO, WORLD0        -1\rX\n     2HELLO, WORLD1        -2\rX\
+       \n     3HELLO, WORLD1        -3\rX\n     4HELLO, WORLD2        -4\rX\n"),
     ("10 F.I=1TO4;P.I,#2,I,#0,I , ;N.I\n", 9, Ending::End, b"     1 11     2 22     3 33     4 44"),
     ("10 F.I=1TO3;PRINT;N.I\n20 P.'Z'\n", 8, Ending::End, b"\n\n\nZ\n"),
     ("10 F.I=1TO3\n20 P. ' A;B' , \"'\" ,_, '' , -I ; N.I\n",
      7, Ending::End, b" A;B'\r    -1\n A;B'\r    -2\n A;B'\r    -3\n"),
     ("10 F.I=1TO3;P.1,2,3,4,5,6,7,8,9,#1,10,11,12,13;N.I\n",
      7, Ending::End,
-     b"     1     2     3     4     5     6     7     8     910111213\n     1     2     3     4     5     6     7     8     910111213\n     1     2     3     4     5     6     7     8     910111213\n"),
+     b"     1     2     3     4     5     6     7     8     910111213\
+       \n     1     2     3     4     5     6     7     8     910111213\
+       \n     1     2     3     4     5     6     7     8     910111213\n"),
     ("10 @(1)=3,@(2)=5,@(3)=7\n20 F.I=1TO3;P.#I,@(I),ABS(-I)+SIZE*0;N.I\n", 8, Ending::End, b"31\n 5 2\n  7  3\n"),
     // a PRINT shows what is before its fault
     ("10 A=A+1;P.'Y',#4-A,A,;GOTO 10\n", 14, Ending::How, b"Y  1Y 2Y3Y4Y\nHOW?\n10 A=A+1;P.'Y',#4-A?,A,;GOTO 10\n"),

@@ -133,8 +133,8 @@ const LIMIT: &[Step] = &[(0, Ok(Some(Ending::Limit)), 0, b"")];
 // A text, and the steps of its machine.
 type Played = (&'static str, &'static [Step]);
 
-// Two machines, and how alike they are. They differ in a value, in what was shown last, a byte or a newline, in how many commands were begun, and in whether the run is
-// over. The hash leaves the last two out.
+// Two machines, and how alike they are. They differ in a value, in what was shown last, a byte or a newline, in how
+// many commands were begun, and in whether the run is over. The hash leaves the last two out.
 const PAIRS: &[(Played, Played, Likeness)] = table! {
     (("10 A=1;GOTO 10", QUIET), ("10 A=1;GOTO 10", QUIET), ALIKE),
     (("10 A=1;GOTO 10", QUIET), ("10 A=2;GOTO 10", QUIET), UNLIKE),
