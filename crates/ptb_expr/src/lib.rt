@@ -7,8 +7,7 @@
 //! `evaluate_in`, which is lent the room for the steps. What is evaluated often is read once, by
 //! `read_value` and `read_variable`; `run_steps` runs the steps, and `plain_value` runs those that
 //! ask nothing and have a value; `single_value` is for one step. A `ShortValue` has the value of a
-//! few steps without a loop over them. The crate re-exports what `ptb_answers` has: the choosers,
-//! the rules of a run, and the forms of lists of answers.
+//! few steps without a loop over them. The crate re-exports the choosers of `ptb_answers`.
 #![tactic(auto)]
 
 mod eval;
@@ -31,7 +30,7 @@ pub use fault::{Fault, FaultKind, Stop};
 pub use laws::{code_laws, mark_laws, spelling_laws, value_laws};
 pub use operator::Operator;
 pub use plain::{plain_value, single_value};
-pub use ptb_answers::{Asked, Chooser, Form, Listed, Marked, Pause, Rules, Seeded};
+pub use ptb_answers::{Chooser, Listed, Pause, Seeded};
 pub use saved::SavedStore;
 pub use short::ShortValue;
 pub use step::{Step, Steps};

@@ -51,7 +51,7 @@ pub use ptb_code::{
 };
 pub use ptb_command::{Ending, fault_line};
 pub use ptb_devices::{
-    INPUT_LIMIT, Line, LineSource, Lines, ReaderLines, Screen, TextScreen, WriterScreen, read_lines,
+    Line, LineSource, Lines, ReaderLines, Screen, TextScreen, WriterScreen, read_lines,
 };
 pub use reports::report;
 pub use run_end::RunEnd;

@@ -3,8 +3,7 @@
 
 use crate::tests::shared::{Row, expect_rows, expect_same, table};
 use crate::tests::sink::make_sink;
-use ptb_explore::{Parts, ReportWriter};
-use ptb_expr::{Asked, Form};
+use ptb_explore::{Asked, Form, Parts, ReportWriter};
 use ptb_text::{ByteSink, Device, DeviceFault};
 use std::alloc::{AllocError, Global};
 
