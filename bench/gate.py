@@ -1,8 +1,8 @@
 #!/usr/bin/env python3
 """Measures what each crate costs, and writes it into the tables of docs/gate.md: bench/gate.py build | gate
 
-`build` runs ./build, and `gate` runs rt ci --anew, both in the root of this repository, which should be a fresh clone on a machine
-on which nothing else runs. With `taskset -c 0,1` before the command it is measured on two cores.
+`build` runs ./build, and `gate` runs rt ci, with --anew if the kit has that option, in the root of this repository. It should be a
+fresh clone, on a machine on which nothing else runs. With `taskset -c 0,1` before the command it is measured on two cores.
 
 While the command runs, the processes of the prover below it are watched. A first build gives the seconds from the start of a crate
 to its end; a gate gives the seconds of one processor for its proof, for the proof with its tests, and for the trials of its planted
@@ -20,7 +20,7 @@ from pathlib import Path
 
 ROOT = Path(__file__).resolve().parent.parent
 PAGE = ROOT / "docs/gate.md"
-COMMANDS = {"build": ["./build"], "gate": ["rt", "ci", "--anew"]}
+COMMANDS = {"build": "./build", "gate": "rt ci"}
 CORES = {1: "one", 2: "two", 4: "four", 8: "eight"}
 TICKS = os.sysconf("SC_CLK_TCK")
 FUNCTION = re.compile(r"^ *(?:pub(?:\([a-z]+\))? )?fn ", re.M)
@@ -129,9 +129,16 @@ def filled(line, cells):
     return "| " + " | ".join(cells.get(column, cell) for column, cell in enumerate(old)) + " |"
 
 
+def keeps_what_passed():
+    """Whether `rt ci` of this kit takes what passed before as passed."""
+    helped = subprocess.run(["rt", "help"], stdout=subprocess.PIPE, stderr=subprocess.STDOUT)
+    return b"--anew" in helped.stdout
+
+
 def main():
     name = sys.argv[1]
-    tasks, seconds, spent = watched(COMMANDS[name])
+    options = ["--anew"] if name == "gate" and keeps_what_passed() else []
+    tasks, seconds, spent = watched(COMMANDS[name].split() + options)
     cores = CORES.get(len(os.sched_getaffinity(0)), f"{len(os.sched_getaffinity(0))}")
     total = {2: "{}:{:02}".format(*divmod(round(seconds), 60)), 3: f"{spent / 60:.0f}"}
     lines = PAGE.read_text().split("\n")
@@ -139,7 +146,7 @@ def main():
         crate = re.match(r"\| `(ptb[a-z_]*)` \|", line)
         if crate and cores == "four":
             lines[number] = filled(line, cells_of(crate[1], tasks, name))
-        elif line.startswith(f"| `{' '.join(COMMANDS[name])}` | {cores} |"):
+        elif line.startswith(f"| `{COMMANDS[name]}` | {cores} |"):
             lines[number] = filled(line, total)
     PAGE.write_text("\n".join(lines))
 
