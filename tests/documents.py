@@ -254,7 +254,8 @@ def named_sources(page):
     """The patterns of the paths of the sources and the files of definitions that a page names by their last names."""
     text = "\n".join(lines_of(page))
     for name in sorted(set(re.findall(r"`((?:[a-z_]+/)?[a-z_]+\.rt)`", text))):
-        yield f"crates/*/src/{name}"
+        is_test = page == "tests/README.md" and glob.glob(f"{ROOT}/crates/*/src/tests/{name}")
+        yield f"crates/*/src/{'tests/' if is_test else ''}{name}"
     for name in sorted(set(re.findall(r"`specs/([A-Za-z]+)`", text))):
         yield f"crates/*/specs/{name}.antt"
 
