@@ -1,4 +1,5 @@
 -- This file passes on the definitions that the clauses of this crate cite most. It declares nothing.
+pub use Rattle.std.specs.Prelude.{List, ℕ, length, option_map}
 pub use Rattle.ptb_answers.specs.Outcome.{is_answer}
 pub use Rattle.ptb_text.specs.CursorState.{bytes_left}
 pub use Rattle.ptb_text.specs.Finding.{LiesAhead, StandsNext, past_byte}

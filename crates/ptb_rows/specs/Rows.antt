@@ -180,7 +180,8 @@ pub record ChanceRows : Type 0 where
   -- the signs of the sums are bytes of the lines, and a minus sign comes before the digits
   pub four_tosses :
       reply_to chances (codes "10 F.I=1TO4;A=A+RND(2)*2-3;N.I;P.#1,A") []
-      ≡ reply_with (codes "CHANCE 1/4 4 END 2\n-2\nCHANCE 1/16 1 END 2\n-4\nCHANCE 3/8 6 END 1\n0\nCHANCE 1/4 4 END 1\n2\nCHANCE 1/16 1 END 1\n4\n")
+      ≡ reply_with (codes "CHANCE 1/4 4 END 2\n-2\nCHANCE 1/16 1 END 2\n-4\nCHANCE 3/8 6 END 1\n0\n"
+      ++ codes "CHANCE 1/4 4 END 1\n2\nCHANCE 1/16 1 END 1\n4\n")
   pub each_ending :
       reply_to chances (codes "10 A=RND(3);P.#1,A;IF A=1 STOP\n20 IF A=2 P.1/0") []
       ≡ reply_with (codes "CHANCE 1/3 1 END 1\n3\nCHANCE 1/3 1 STOP 1\n1\nCHANCE 1/3 1 HOW 16\n20 IF A=2 P.1/0?\n")
@@ -337,7 +338,8 @@ pub record AllRows : Type 0 where
   pub one_roll : reply_to all (codes "10 P.RND(2)") [] ≡ reply_with
       (codes "RUN 1 END 1 7\n     1\n\nRUN 2 END 1 7\n     2\n\n")
   pub two_rolls : reply_to all (codes "10 PRINT RND(2)*RND(2)") [] ≡ reply_with
-      (codes "RUN 1,1 END 1 7\n     1\n\nRUN 1,2 END 1 7\n     2\n\nRUN 2,1 END 1 7\n     2\n\nRUN 2,2 END 1 7\n     4\n\n")
+      (codes "RUN 1,1 END 1 7\n     1\n\nRUN 1,2 END 1 7\n     2\n\n"
+      ++ codes "RUN 2,1 END 1 7\n     2\n\nRUN 2,2 END 1 7\n     4\n\n")
   pub roll_after_if : reply_to all (codes "10 A=RND(2);IF A=2 B=RND(3);PRINT B") [] ≡ reply_with
       (codes "RUN 1 END 2 0\n\nRUN 2,1 END 4 7\n     1\n\nRUN 2,2 END 4 7\n     2\n\nRUN 2,3 END 4 7\n     3\n\n")
   pub faulty_run : reply_to all (codes "10 A=RND(2)-1;B=RND(A)") [] ≡ reply_with
