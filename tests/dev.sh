@@ -97,6 +97,12 @@ count_same 'a bug that is missing' "$status $(cat "$folder/errors")" "$due"
 tries --more low
 due='64 try-bugs: there is no bug in crates/low/more-bugs'
 count_same 'a crate without more bugs' "$status $(cat "$folder/errors")" "$due"
+echo 'high: low lib' >"$real/crates.txt"
+mkdir -p "$real/crates/"{low,high}/out/{rlib,incremental}
+touch "$real/crates/"{low,high}/out/{rlib,incremental}/kept
+tries high one
+due=$(copy_with one | sed 's|./crates/low/src|./crates/low/out/rlib/kept &|')
+count_same 'what is kept of the crates below' "$(cat "$folder/output")" "$due"
 rm -r "$real/crates/high/more-bugs"
 tries --more
 count_same 'no more bugs' "$status $(cat "$folder/errors")" '64 try-bugs: no crate has a folder more-bugs'
