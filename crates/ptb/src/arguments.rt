@@ -68,7 +68,8 @@ fn run_words<
     }
 }
 
-// Does what the options ask for.
+// Does what the options ask for. The task is lent to `serve_task`, which has more exits: each exit of a body is proved
+// with all that the body owns.
 fn run_matches<R: Runtime + AllocGlobal, P: Read + Drop, O: Programs<P>, I: Read, W: Write + Watch>(
     console: &Console<'_, R>,
     matches: &ArgMatches<'_>,

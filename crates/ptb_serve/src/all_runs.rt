@@ -119,7 +119,8 @@ fn list_runs_on<W: Write>(
     }
 }
 
-// Writes the reports of the runs that an explorer has left, or of the first of them, and drops it.
+// Writes the reports of the runs that an explorer has left, or of the first of them, and drops it. This body owns the
+// explorer because it has few exits: each exit of a body is proved with all that the body owns.
 fn write_reports<W: Write>(
     mut explorer: Explorer<'_>,
     first: Option<u64>,
