@@ -357,16 +357,29 @@ class Heads(unittest.TestCase):
                     self.assertTrue(words & (sources.declared(text) | passed_on))
 
     def test_lemmas(self):
-        """The head of a file of lemmas names the main ones."""
+        """The head of a file of lemmas names the main ones. A file that exports lemmas declares none."""
         for path in sources.files(ROOT, "proofs"):
             text = sources.text_of(path)
             with self.subTest(os.path.relpath(path, ROOT)):
+                if path.endswith("/PublicLemmas.antt"):
+                    self.assertTrue(PASSED_ON.findall(text) and not sources.declared(text))
+                    continue
                 main = sources.CODE.findall("".join(sources.MAIN.findall(sources.head(text))))
                 self.assertTrue(main)
                 self.assertLessEqual(set(main), sources.declared(text))
 
 
 # ---- prose
+
+
+class Lemmas(unittest.TestCase):
+    """Each crate exports one file of lemmas."""
+
+    def test_exported(self):
+        """The other files of lemmas are private."""
+        for lib in sorted(glob.glob(f"{ROOT}/crates/*/proofs/Lib.antt")):
+            with self.subTest(os.path.relpath(lib, ROOT)):
+                self.assertLessEqual(set(re.findall(r"^pub mod (\w+)", sources.text_of(lib), re.M)), {"PublicLemmas"})
 
 
 class Prose(unittest.TestCase):
