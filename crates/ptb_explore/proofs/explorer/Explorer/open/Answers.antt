@@ -14,7 +14,7 @@ use Rattle.ptb_explore.proofs.Mismatches.{mismatch_closes}
 use Rattle.ptb_explore.proofs.Opened.{IsBefore, before_all, before_begun, before_game, before_opens, misfit_opened}
 use Rattle.ptb_explore.proofs.RunPrefix.{program_laws}
 use Rattle.ptb_explore.proofs.explorer.Explorer.«open».Goals as goal
-use Rattle.ptb_explore.proofs.explorer.Explorer.«open».Goals.{In-None, In-Some}
+use Rattle.ptb_explore.proofs.explorer.Explorer.«open».Goals.{Joined-not-is_empty}
 use Rattle.ptb_explore.proofs.explorer.Explorer.«open».Goals.{then-not-is_empty+in_ok-check_beginning, else-not-is_empty}
 
 pub returns-in_err-items-clause-laws : goal.returns-in_err-items-clause-laws
@@ -40,26 +40,10 @@ returns-in_err-check_beginning-clause-no_beginning c = λ m fault.
     made.rules made.played m (c.in_err-check_beginning.ensures.mismatch m
     (passed_on _ _ _ c.from_residual-in_err-check_beginning.ensures.1 fault)))
 
--- what it was before it went to a run, if it did
-before_none : (c : In-None) → IsBefore c.args.program.now c.args.lines.now c.args.rules c.args.under.now c.if-not-is_empty.runner
-before_none c =
-    let p = c.args.program.now in
-    let input = c.args.lines.now in
-    let rules = c.args.rules in
-    let list = c.args.under.now in
-    let made = c.in_ok-runner.ensures in
-    elim c.if-not-is_empty.branch [
-      | then-not-is_empty+in_ok-check_beginning w ↦ rw w.runner-is (before_begun p input rules list c.in_ok-runner.runner
-          made.program made.lines made.rules made.played w.check_beginning.new.self w.check_beginning.ensures.same
-          w.in_ok-check_beginning.ensures.none (sym c.is_empty.ensures ∙ w.if-not-is_empty.true)
-          w.in_ok-check_beginning.ensures.beginning w.in_ok-check_beginning.ensures.played)
-      | else-not-is_empty w ↦ rw w.runner-is (before_all p input rules list c.in_ok-runner.runner made.program made.lines
-          made.rules made.played made.none (most_answers p input rules.limit) (c.run_laws.ensures.reads p input rules)
-          (sym c.is_empty.ensures ∙ w.if-not-is_empty.false))
-    ]
-
-before_some : (c : In-Some) → IsBefore c.args.program.now c.args.lines.now c.args.rules c.args.under.now c.if-not-is_empty.runner
-before_some c =
+-- what its runner is before it goes to a run, if it does
+before : (c : Joined-not-is_empty) → IsBefore c.args.program.now c.args.lines.now c.args.rules c.args.under.now
+    c.if-not-is_empty.runner
+before c =
     let p = c.args.program.now in
     let input = c.args.lines.now in
     let rules = c.args.rules in
@@ -77,26 +61,26 @@ before_some c =
 
 pub invariant_of-explorer : goal.invariant_of-explorer
 invariant_of-explorer c =
-    let before = before_none (goal.at.invariant_of-explorer c).In-None in (
-      before_opens c.args.program.now c.args.lines.now c.args.rules c.args.under.now c.if-not-is_empty.runner before
+    let is = before (goal.at.invariant_of-explorer c).Joined-not-is_empty in (
+      before_opens c.args.program.now c.args.lines.now c.args.rules c.args.under.now c.if-not-is_empty.runner is
           c.in_ok-items.items.items c.in_ok-items.ensures,
-      before.none,
+      is.none,
     )
 
 pub invariant_of-explorer-in-Some : goal.invariant_of-explorer-in-Some
 invariant_of-explorer-in-Some c =
-    let before = before_some (goal.at.invariant_of-explorer-in-Some c).In-Some in (
-      before_opens c.args.program.now c.args.lines.now c.args.rules c.args.under.now c.if-not-is_empty.runner before
+    let is = before (goal.at.invariant_of-explorer-in-Some c).Joined-not-is_empty in (
+      before_opens c.args.program.now c.args.lines.now c.args.rules c.args.under.now c.if-not-is_empty.runner is
           c.in_ok-items.items.items c.in_ok-items.ensures,
-      before.none,
+      is.none,
     )
 
 pub returns-in-None-clause-beginning : goal.returns-in-None-clause-beginning
-returns-in-None-clause-beginning c = (before_none (goal.at.returns-in-None-clause-beginning c).In-None).beginning
+returns-in-None-clause-beginning c = (before (goal.at.returns-in-None-clause-beginning c).Joined-not-is_empty).beginning
 
 pub returns-in-None-clause-played : goal.returns-in-None-clause-played
 returns-in-None-clause-played c =
-    rw c.in-None.is (before_none (goal.at.returns-in-None-clause-played c).In-None).played
+    rw c.in-None.is (before (goal.at.returns-in-None-clause-played c).Joined-not-is_empty).played
 
 pub returns-in-None-clause-laws : goal.returns-in-None-clause-laws
 returns-in-None-clause-laws c =
@@ -104,31 +88,31 @@ returns-in-None-clause-laws c =
 
 pub returns-in-Some-clause-beginning : goal.returns-in-Some-clause-beginning
 returns-in-Some-clause-beginning c =
-    on_ok_always c.go_to.result (before_some (goal.at.returns-in-Some-clause-beginning c).In-Some).beginning
+    on_ok_always c.go_to.result (before (goal.at.returns-in-Some-clause-beginning c).Joined-not-is_empty).beginning
 
 pub returns-in-Some-clause-played : goal.returns-in-Some-clause-played
 returns-in-Some-clause-played c =
     let r = c.if-not-is_empty.runner in
-    let before = before_some (goal.at.returns-in-Some-clause-played c).In-Some in
-    let game = before_game c.args.program.now c.args.lines.now c.args.rules c.args.under.now r before in
+    let is = before (goal.at.returns-in-Some-clause-played c).Joined-not-is_empty in
+    let game = before_game c.args.program.now c.args.lines.now c.args.rules c.args.under.now r is in
     let there = answers_of c.in-Some.list.now in
     let added : IfOk c.go_to.result (λ e. IsAdded (game_of r) there r.played e.played) = c.go_to.ensures.played in
     rw c.in-Some.is (IfOk-weaker c.go_to.result _ _ (λ e a. (
       r.played,
-      before.played,
+      is.played,
       subst (λ (g : Answers → Outcome Finish (List ℕ)). IsAdded g there r.played e.played) game a,
     )) added)
 
 pub returns-in-Some-clause-not_a_run : goal.returns-in-Some-clause-not_a_run
 returns-in-Some-clause-not_a_run c = λ m fault.
     let r = c.if-not-is_empty.runner in
-    let before = before_some (goal.at.returns-in-Some-clause-not_a_run c).In-Some in
-    let game = before_game c.args.program.now c.args.lines.now c.args.rules c.args.under.now r before in
+    let is = before (goal.at.returns-in-Some-clause-not_a_run c).Joined-not-is_empty in
+    let game = before_game c.args.program.now c.args.lines.now c.args.rules c.args.under.now r is in
     let list = c.in-Some.list.now in
     let none : IsMarkedRun (game_of r) list
     → begins_with (answers_of list) (answers_of c.in_ok-items.items.items) ≡ true → ⊥ =
     c.go_to.ensures.not_a_run m fault in (
-      before.beginning,
+      is.beginning,
       rw c.in-Some.is (λ run. none (subst (λ (g : Answers → Outcome Finish (List ℕ)). IsMarkedRun g list) (sym game)
           run.run) (rw c.in_ok-items.ensures run.begins)),
     )
