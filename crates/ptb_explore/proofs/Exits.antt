@@ -4,7 +4,7 @@ use Rattle.std.proofs.Common.{◌≡◌, Option, Some, Result, Ok, Err, ap, subs
 use Rattle.std.specs.Option.{OnSome}
 use Rattle.std.specs.Result.{IsErrAnd, OnOk}
 use Rattle.ptb_explore.specs.declared.fault.OpenFault.{OpenFault}
-use Rattle.ptb_explore.specs.declared.fault.OpenFault.TheVariants.{Memory, NoBeginning, NotARun}
+use Rattle.ptb_explore.specs.declared.fault.OpenFault.TheVariants.{NoBeginning, NotARun}
 use Rattle.ptb_explore.specs.declared.mismatch.Mismatch.{Mismatch}
 
 -- a result is no fault
@@ -44,18 +44,7 @@ err_no_ok h = absurd cc
 pub on_some_at : {T Q : Type 0} {o : Option T} {x : T} → o ≡ Some x → OnSome o Q → Q
 on_some_at {Q = Q} is h = subst (λ o. OnSome o Q) is h
 
--- a refusal of memory is no fault of a list
-pub memory_no_beginning : {T P : Type 0} (r : Result T OpenFault) (m : Mismatch) → IsErrAnd r (λ e. e ≡ Memory)
-    → r ≡ Err (NoBeginning m) → P
-memory_no_beginning (Ok x) m h k = absurd h
-memory_no_beginning (Err e) m h k = absurd cc
-
--- and of the other
-pub memory_no_run : {T P : Type 0} (r : Result T OpenFault) (m : Mismatch) → IsErrAnd r (λ e. e ≡ Memory)
-    → r ≡ Err (NotARun m) → P
-memory_no_run (Ok x) m h k = absurd h
-memory_no_run (Err e) m h k = absurd cc
-
+-- the same of the other fault
 pub same_misfit : {T : Type 0} (P : Mismatch → Type 0) (m n : Mismatch)
     → ◌≡◌ {A = Result T OpenFault} (Err (NoBeginning m)) (Err (NoBeginning n)) → P m → P n
 same_misfit P m n h x =

@@ -82,6 +82,64 @@ impl<'a> Explorer<'a> {
     ghost use Rattle.ptb_explore.specs.Explorations.{AreKeptAt};
     ghost use Rattle.ptb_explore.specs.Openings.{first_front, IsRunUnder, IsRefusedRun, IsPlayedBefore, IsPlayedFor};
 
+    /// An explorer of the runs that begin with the answers of `under`, of all runs where that is empty:
+    /// before the first of them, or at the run `after`, if one is named. Some of the answers of both
+    /// lists may have their bounds. `under` is looked at first; nothing is played for an empty one.
+    ///
+    /// # Errors
+    ///
+    /// [`OpenFault::NoBeginning`] with the reason where no run begins with `under`, or a bound that is
+    /// stated is not that of its question, so never where it is empty; [`OpenFault::NotARun`] with the
+    /// reason where `after` is named and is no run of these, as in [`go_to`](Explorer::go_to);
+    /// [`OpenFault::Memory`] where a growth was refused memory.
+    pub fn open(
+        alloc: Global,
+        program: &'a Program,
+        lines: &'a [Line],
+        rules: Rules,
+        under: &[Marked],
+        after: Option<&[Marked]>,
+    ) -> Result<Explorer<'a>, OpenFault>
+        ensures opened { IfOk result (λ e. e ≡ exploration program.now lines.now rules
+            (answers_of under.now) (first_front (option_copied after.entry)) e.kept e.played) }
+        ensures beginning { OnOk result
+            (IsMarkedBeginning (play program.now lines.now rules) under.now) }
+        ensures run { OnOk result (IfSome (option_copied after.entry)
+            (IsRunUnder (play program.now lines.now rules) under.now)) }
+        ensures kept { IfOk result (λ e. AreKeptAt (first_front (option_copied after.entry)) e.kept) }
+        ensures played { IfOk result (λ e. IsPlayedFor (play program.now lines.now rules) under.now
+            (option_copied after.entry) e.played) }
+        ensures no_beginning { (m : Mismatch) → IsErrOf result (OpenFault.NoBeginning m)
+            → IsMarkedBeginning (play program.now lines.now rules) under.now → ⊥ }
+        ensures not_a_run { (m : Mismatch) → IsErrOf result (OpenFault.NotARun m)
+            → IsMarkedBeginning (play program.now lines.now rules) under.now × IfSome (option_copied after.entry)
+            (λ list. IsRunUnder (play program.now lines.now rules) under.now list → ⊥) }
+        ensures mismatch { (m : Mismatch) → IsErrOf result (OpenFault.NoBeginning m)
+            → IsItemMismatch (play program.now lines.now rules) under.now m }
+        ensures run_mismatch { (m : Mismatch) → IsErrOf result (OpenFault.NotARun m)
+            → IsRefusedRun (play program.now lines.now rules) under.now (option_copied after.entry) m }
+
+        // Laws of the definitions.
+        ensures laws { TreeLaws (play program.now lines.now rules)
+            (most_answers program.now lines.now rules.limit) }
+    {
+        run_laws();
+        let items = copied(alloc, under)?;
+        let mut runner = Runner::new(alloc, program, lines, rules)?;
+        if !under.is_empty() {
+            runner.check_beginning(under)?;
+        }
+        let explorer = Explorer {
+            runner,
+            under: items,
+            position: Position::AtStart,
+        };
+        match after {
+            None => Ok(explorer),
+            Some(list) => explorer.go_to(list),
+        }
+    }
+
     /// An explorer before the first run of a program with these input lines. Each run is played by
     /// these rules.
     ///
@@ -101,16 +159,21 @@ impl<'a> Explorer<'a> {
         ensures laws { TreeLaws (play program.now lines.now rules)
             (most_answers program.now lines.now rules.limit) }
     {
-        run_laws();
-        Ok(Explorer {
-            runner: Runner::new(alloc, program, lines, rules)?,
-            under: Vec::new(alloc),
-            position: Position::AtStart,
-        })
+        match Explorer::open(alloc, program, lines, rules, &[], None) {
+            Ok(explorer) => Ok(explorer),
+            Err(OpenFault::Memory) => Err(AllocError),
+
+            // Each run begins with no answers.
+            Err(OpenFault::NoBeginning(_)) => unreachable!(),
+
+            // No run is named.
+            Err(OpenFault::NotARun(_)) => unreachable!(),
+        }
     }
 
     /// An explorer before the first of the runs that begin with the answers of a list, of which some
-    /// may have their bounds. It has played the first of them, which shows that a run begins so.
+    /// may have their bounds. Unless the list is empty, it has played the first of them, which shows
+    /// that a run begins so.
     ///
     /// # Errors
     ///
@@ -127,9 +190,8 @@ impl<'a> Explorer<'a> {
             e ≡ exploration program.now lines.now rules (answers_of list.now) Start [] e.played) }
         ensures beginning { OnOk result
             (IsMarkedBeginning (play program.now lines.now rules) list.now) }
-        ensures played { IfOk result (λ e. (a : Answers)
-            → IsNextRun (play program.now lines.now rules) (answers_of list.now) Start a
-            → IsPlayed (play program.now lines.now rules) a e.played) }
+        ensures played { IfOk result (λ e.
+            IsPlayedBefore (play program.now lines.now rules) list.now e.played) }
         ensures no_beginning { (m : Mismatch) → IsErrOf result (OpenFault.NoBeginning m)
             → IsMarkedBeginning (play program.now lines.now rules) list.now → ⊥ }
         ensures mismatch { (m : Mismatch) → IsErrOf result (OpenFault.NoBeginning m)
@@ -140,16 +202,74 @@ impl<'a> Explorer<'a> {
         ensures laws { TreeLaws (play program.now lines.now rules)
             (most_answers program.now lines.now rules.limit) }
     {
+        Explorer::open(alloc, program, lines, rules, list, None)
+    }
+
+    /// An explorer that is at the run of the answers of a list, of which some may have their
+    /// bounds.
+    ///
+    /// # Errors
+    ///
+    /// [`OpenFault::NotARun`] with the reason where the answers are no run, or a bound that is stated
+    /// is not that of its question; [`OpenFault::Memory`] where a growth was refused memory.
+    pub fn after_marked(
+        alloc: Global,
+        program: &'a Program,
+        lines: &'a [Line],
+        rules: Rules,
+        list: &[Marked],
+    ) -> Result<Explorer<'a>, OpenFault>
+        ensures after { IfOk result (λ e. e ≡ exploration program.now lines.now rules
+            [] (At (answers_of list.now)) e.kept e.played) }
+        ensures run { OnOk result (IsMarkedRun (play program.now lines.now rules) list.now) }
+        ensures kept { IfOk result (λ e. AreBeginnings 0 (answers_of list.now) e.kept) }
+        ensures played { IfOk result (λ e.
+            IsPlayed (play program.now lines.now rules) (answers_of list.now) e.played) }
+        ensures not_a_run { (m : Mismatch) → IsErrOf result (OpenFault.NotARun m)
+            → IsMarkedRun (play program.now lines.now rules) list.now → ⊥ }
+        ensures mismatch { (m : Mismatch) → IsErrOf result (OpenFault.NotARun m)
+            → IsRunMismatch (play program.now lines.now rules) [] list.now m }
+        ensures kind { (m : Mismatch) → ¬ IsErrOf result (OpenFault.NoBeginning m) }
+
+        // Laws of the definitions.
+        ensures laws { TreeLaws (play program.now lines.now rules)
+            (most_answers program.now lines.now rules.limit) }
+    {
+        Explorer::open(alloc, program, lines, rules, &[], Some(list))
+    }
+
+    /// An explorer that is at the run of these answers.
+    ///
+    /// # Errors
+    ///
+    /// [`OpenFault::NotARun`] with the reason where the answers are no run, [`OpenFault::Memory`]
+    /// where a growth was refused memory.
+    pub fn after(
+        alloc: Global,
+        program: &'a Program,
+        lines: &'a [Line],
+        rules: Rules,
+        answers: &[i16],
+    ) -> Result<Explorer<'a>, OpenFault>
+        ensures after { IfOk result (λ e.
+            e ≡ exploration program.now lines.now rules [] (At answers.now) e.kept e.played) }
+        ensures run { OnOk result (IsRun (play program.now lines.now rules) answers.now) }
+        ensures kept { IfOk result (λ e. AreBeginnings 0 answers.now e.kept) }
+        ensures played { IfOk result (λ e.
+            IsPlayed (play program.now lines.now rules) answers.now e.played) }
+        ensures not_a_run { (m : Mismatch) → IsErrOf result (OpenFault.NotARun m)
+            → IsRun (play program.now lines.now rules) answers.now → ⊥ }
+        ensures mismatch { (m : Mismatch) → IsErrOf result (OpenFault.NotARun m)
+            → IsRunMismatch (play program.now lines.now rules) [] (unmarked answers.now) m }
+        ensures kind { (m : Mismatch) → ¬ IsErrOf result (OpenFault.NoBeginning m) }
+
+        // Laws of the definitions.
+        ensures laws { TreeLaws (play program.now lines.now rules)
+            (most_answers program.now lines.now rules.limit) }
+    {
         run_laws();
-        let under = copied(alloc, list)?;
-        let mut runner = Runner::new(alloc, program, lines, rules)?;
-        runner.check_beginning(list)?;
-        let position = Position::AtStart;
-        Ok(Explorer {
-            runner,
-            under,
-            position,
-        })
+        let list = unmarked(alloc, answers)?;
+        Explorer::after_marked(alloc, program, lines, rules, &list)
     }
 
     /// Moves to the run of the answers of a list, of which some may have their bounds.
@@ -188,149 +308,5 @@ impl<'a> Explorer<'a> {
         self.runner.check_run(list)?;
         self.position = Position::AtRun;
         Ok(self)
-    }
-
-    /// An explorer that is at the run of these answers.
-    ///
-    /// # Errors
-    ///
-    /// [`OpenFault::NotARun`] with the reason where the answers are no run, [`OpenFault::Memory`]
-    /// where a growth was refused memory.
-    pub fn after(
-        alloc: Global,
-        program: &'a Program,
-        lines: &'a [Line],
-        rules: Rules,
-        answers: &[i16],
-    ) -> Result<Explorer<'a>, OpenFault>
-        ensures after { IfOk result (λ e.
-            e ≡ exploration program.now lines.now rules [] (At answers.now) e.kept e.played) }
-        ensures run { OnOk result (IsRun (play program.now lines.now rules) answers.now) }
-        ensures kept { IfOk result (λ e. AreBeginnings 0 answers.now e.kept) }
-        ensures played { IfOk result (λ e.
-            IsPlayed (play program.now lines.now rules) answers.now e.played) }
-        ensures not_a_run { (m : Mismatch) → IsErrOf result (OpenFault.NotARun m)
-            → IsRun (play program.now lines.now rules) answers.now → ⊥ }
-        ensures mismatch { (m : Mismatch) → IsErrOf result (OpenFault.NotARun m)
-            → IsRunMismatch (play program.now lines.now rules) [] (unmarked answers.now) m }
-        ensures kind { (m : Mismatch) → ¬ IsErrOf result (OpenFault.NoBeginning m) }
-
-        // Laws of the definitions.
-        ensures laws { TreeLaws (play program.now lines.now rules)
-            (most_answers program.now lines.now rules.limit) }
-    {
-        run_laws();
-        let list = unmarked(alloc, answers)?;
-        Explorer::after_marked(alloc, program, lines, rules, &list)
-    }
-
-    /// An explorer that is at the run of the answers of a list, of which some may have their
-    /// bounds.
-    ///
-    /// # Errors
-    ///
-    /// [`OpenFault::NotARun`] with the reason where the answers are no run, or a bound that is stated
-    /// is not that of its question; [`OpenFault::Memory`] where a growth was refused memory.
-    pub fn after_marked(
-        alloc: Global,
-        program: &'a Program,
-        lines: &'a [Line],
-        rules: Rules,
-        list: &[Marked],
-    ) -> Result<Explorer<'a>, OpenFault>
-        ensures after { IfOk result (λ e. e ≡ exploration program.now lines.now rules
-            [] (At (answers_of list.now)) e.kept e.played) }
-        ensures run { OnOk result (IsMarkedRun (play program.now lines.now rules) list.now) }
-        ensures kept { IfOk result (λ e. AreBeginnings 0 (answers_of list.now) e.kept) }
-        ensures played { IfOk result (λ e.
-            IsPlayed (play program.now lines.now rules) (answers_of list.now) e.played) }
-        ensures not_a_run { (m : Mismatch) → IsErrOf result (OpenFault.NotARun m)
-            → IsMarkedRun (play program.now lines.now rules) list.now → ⊥ }
-        ensures mismatch { (m : Mismatch) → IsErrOf result (OpenFault.NotARun m)
-            → IsRunMismatch (play program.now lines.now rules) [] list.now m }
-        ensures kind { (m : Mismatch) → ¬ IsErrOf result (OpenFault.NoBeginning m) }
-
-        // Laws of the definitions.
-        ensures laws { TreeLaws (play program.now lines.now rules)
-            (most_answers program.now lines.now rules.limit) }
-    {
-        run_laws();
-        Explorer::start(alloc, program, lines, rules)?.go_to(list)
-    }
-
-    /// An explorer of the runs that begin with the answers of `under`, of all runs where that is empty:
-    /// before the first of them, or at the run `after`, if one is named. Some of the answers of both
-    /// lists may have their bounds. `under` is looked at first; nothing is played for an empty one.
-    ///
-    /// # Errors
-    ///
-    /// [`OpenFault::NoBeginning`] with the reason where no run begins with `under`, as in
-    /// [`under`](Explorer::under); [`OpenFault::NotARun`] with the reason where `after` is no run of
-    /// these, as in [`go_to`](Explorer::go_to); [`OpenFault::Memory`] where a growth was refused memory.
-    pub fn open(
-        alloc: Global,
-        program: &'a Program,
-        lines: &'a [Line],
-        rules: Rules,
-        under: &[Marked],
-        after: Option<&[Marked]>,
-    ) -> Result<Explorer<'a>, OpenFault>
-        ensures opened { IfOk result (λ e. e ≡ exploration program.now lines.now rules
-            (answers_of under.now) (first_front (option_copied after.entry)) e.kept e.played) }
-        ensures beginning { OnOk result
-            (IsMarkedBeginning (play program.now lines.now rules) under.now) }
-        ensures run { OnOk result (IfSome (option_copied after.entry)
-            (IsRunUnder (play program.now lines.now rules) under.now)) }
-        ensures kept { IfOk result (λ e. AreKeptAt (first_front (option_copied after.entry)) e.kept) }
-        ensures played { IfOk result (λ e. IsPlayedFor (play program.now lines.now rules) under.now
-            (option_copied after.entry) e.played) }
-        ensures no_beginning { (m : Mismatch) → IsErrOf result (OpenFault.NoBeginning m)
-            → IsMarkedBeginning (play program.now lines.now rules) under.now → ⊥ }
-        ensures not_a_run { (m : Mismatch) → IsErrOf result (OpenFault.NotARun m)
-            → IsMarkedBeginning (play program.now lines.now rules) under.now × IfSome (option_copied after.entry)
-            (λ list. IsRunUnder (play program.now lines.now rules) under.now list → ⊥) }
-        ensures mismatch { (m : Mismatch) → IsErrOf result (OpenFault.NoBeginning m)
-            → IsItemMismatch (play program.now lines.now rules) under.now m }
-        ensures run_mismatch { (m : Mismatch) → IsErrOf result (OpenFault.NotARun m)
-            → IsRefusedRun (play program.now lines.now rules) under.now (option_copied after.entry) m }
-
-        // Laws of the definitions.
-        ensures laws { TreeLaws (play program.now lines.now rules)
-            (most_answers program.now lines.now rules.limit) }
-    {
-        run_laws();
-        let explorer = Explorer::before(alloc, program, lines, rules, under)?;
-        match after {
-            None => Ok(explorer),
-            Some(list) => explorer.go_to(list),
-        }
-    }
-
-    // An explorer before the first of the runs that begin with the answers of a list. Nothing is played
-    // for an empty one, with which every run begins.
-    fn before(
-        alloc: Global,
-        program: &'a Program,
-        lines: &'a [Line],
-        rules: Rules,
-        list: &[Marked],
-    ) -> Result<Explorer<'a>, OpenFault>
-        ensures before { IfOk result (λ e.
-            e ≡ exploration program.now lines.now rules (answers_of list.now) Start [] e.played) }
-        ensures beginning { OnOk result
-            (IsMarkedBeginning (play program.now lines.now rules) list.now) }
-        ensures played { IfOk result (λ e.
-            IsPlayedBefore (play program.now lines.now rules) list.now e.played) }
-        ensures no_beginning { (m : Mismatch) → IsErrOf result (OpenFault.NoBeginning m)
-            → IsMarkedBeginning (play program.now lines.now rules) list.now → ⊥ }
-        ensures mismatch { (m : Mismatch) → IsErrOf result (OpenFault.NoBeginning m)
-            → IsItemMismatch (play program.now lines.now rules) list.now m }
-        ensures kind { (m : Mismatch) → ¬ IsErrOf result (OpenFault.NotARun m) }
-    {
-        run_laws();
-        if list.is_empty() {
-            return Ok(Explorer::start(alloc, program, lines, rules)?);
-        }
-        Explorer::under(alloc, program, lines, rules, list)
     }
 }

@@ -228,30 +228,46 @@ fn after_a_run(rt: HostRuntime) -> Result<(), Fail> {
     Ok(())
 }
 
-// Whether the explorer of these runs of two questions has played two steps; or there is no memory for it.
-fn has_played_two(alloc: Global, runs: Runs<'_>, keeps_none: bool) -> bool {
-    let (program, lines) = match loaded(alloc, "10 A=RND(2);B=RND(3)", "") {
-        Ok(both) => both,
-        Err(why) => return why == OUT_OF_MEMORY,
-    };
-    match explorer_of(alloc, &program, &lines, plain_rules(10000), runs) {
-        Ok(explorer) => explorer.played() == 2 && (!keeps_none || explorer.kept() == 0),
-        Err(fault) => fault == OpenFault::Memory,
+// Which runs of two questions an explorer is opened for, and how many commands are played for that.
+struct Opened(Runs<'static>, u64);
+
+impl Opened {
+    // Whether it has played so many, and keeps no copy where it is at no run.
+    fn is_met(&self, explorer: &Explorer) -> bool {
+        let Opened(runs, played) = *self;
+        let is_at_a_run = !matches!(runs, Runs::All | Runs::Under(_));
+        explorer.played() == played && (is_at_a_run || explorer.kept() == 0)
     }
 }
 
-// Passes whichever of its allocations is refused: the list is a run with its bounds, so that only
-// memory can be missing.
-#[test]
-fn refused_after_a_run(rt: HostRuntime) {
-    let found = has_played_two(rt.alloc(), Runs::AfterMarked(&[TWO_OF_2, ONE]), false);
-    expect_same(&rt, "an explorer", found, true);
+impl Row<Global> for Opened {
+    // It holds also where there is no memory.
+    fn holds(&self, alloc: &Global) -> bool {
+        let (program, lines) = match loaded(*alloc, "10 A=RND(2);B=RND(3)", "") {
+            Ok(both) => both,
+            Err(why) => return why == OUT_OF_MEMORY,
+        };
+        match explorer_of(*alloc, &program, &lines, plain_rules(10000), self.0) {
+            Ok(explorer) => self.is_met(&explorer),
+            Err(fault) => fault == OpenFault::Memory,
+        }
+    }
 }
 
-// Passes whichever of its allocations is refused: the list is a beginning with its bound, so that
-// only memory can be missing. The one play that shows this is counted, and no copy is kept.
+const OPENED: &[Opened] = table! { Opened:
+    // for all runs nothing is played
+    (Runs::All, 0),
+    (Runs::Under(&[]), 0),
+    (Runs::UnderAfter(&[], &[TWO_OF_2, ONE]), 2),
+    (Runs::AfterMarked(&[TWO_OF_2, ONE]), 2),
+    // one play shows that a run begins so, and another that the list is a run
+    (Runs::Under(&[TWO_OF_2]), 2),
+    (Runs::UnderAfter(&[TWO_OF_2], &[TWO_OF_2, ONE]), 4),
+};
+
+// Passes whichever of its allocations is refused: all of these runs exist, so that only memory can be
+// missing.
 #[test]
-fn refused_shares(rt: HostRuntime) {
-    let found = has_played_two(rt.alloc(), Runs::Under(&[TWO_OF_2]), true);
-    expect_same(&rt, "an explorer", found, true);
+fn refused_openings(rt: HostRuntime) {
+    expect_rows(&rt, "explorers", &rt.alloc(), OPENED);
 }

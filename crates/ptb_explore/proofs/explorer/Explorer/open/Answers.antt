@@ -1,71 +1,122 @@
 -- This file answers that an explorer is where it is to be opened, or that a list fits no run.
-use Rattle.std.proofs.Common.{◌∙◌, ap, refl, sym}
-use Rattle.std.proofs.lemmas.Result.{IfOk-from_err, IfOk-weaker}
+use Rattle.std.proofs.Common.{◌≡◌, ◌∙◌, ℕ, List, sym, subst, true}
+use Rattle.std.specs.Result.{IfOk}
+use Rattle.std.proofs.lemmas.Result.{IfOk-weaker}
 use Rattle.ptb_answers.specs.AnswerText.{answers_of}
-use Rattle.ptb_explore.specs.Explorations.{Exploration, exploration}
-use Rattle.ptb_explore.specs.RunTree.{At, Start}
-use Rattle.ptb_explore.proofs.Exits.{ok_no_err, on_ok_always, on_ok_both, passed_on}
+use Rattle.ptb_answers.specs.Outcome.{Answers, Outcome}
+use Rattle.ptb_machine.specs.Play.{Finish, play}
+use Rattle.ptb_machine.specs.Questions.{most_answers}
+use Rattle.ptb_explore.specs.Explorations.{IsAdded, game_of}
+use Rattle.ptb_explore.specs.MarkedRuns.{IsMarkedRun}
+use Rattle.ptb_explore.specs.RunTree.{begins_with}
+use Rattle.ptb_explore.proofs.Exits.{on_ok_always, passed_on}
+use Rattle.ptb_explore.proofs.Mismatches.{mismatch_closes}
+use Rattle.ptb_explore.proofs.Opened.{IsBefore, before_all, before_begun, before_game, before_opens, misfit_opened}
 use Rattle.ptb_explore.proofs.RunPrefix.{program_laws}
 use Rattle.ptb_explore.proofs.explorer.Explorer.«open».Goals as goal
+use Rattle.ptb_explore.proofs.explorer.Explorer.«open».Goals.{Joined-not-is_empty}
+use Rattle.ptb_explore.proofs.explorer.Explorer.«open».Goals.{then-not-is_empty+in_ok-check_beginning, else-not-is_empty}
 
-pub returns-in_err-explorer : goal.returns-in_err-explorer
-returns-in_err-explorer c =
-    let err = c.from_residual.ensures in
-    record {
-      opened = IfOk-from_err _ _ err.0;
-      beginning = IfOk-from_err _ _ err.0;
-      run = IfOk-from_err _ _ err.0;
-      kept = IfOk-from_err _ _ err.0;
-      played = IfOk-from_err _ _ err.0;
-      no_beginning = λ m fault. c.in_err-explorer.ensures.no_beginning m (passed_on _ _ _ err.1 fault);
-      not_a_run = λ m fault. absurd (c.in_err-explorer.ensures.kind m (passed_on _ _ _ err.1 fault));
-      mismatch = λ m fault. c.in_err-explorer.ensures.mismatch m (passed_on _ _ _ err.1 fault);
-      run_mismatch = λ m fault. absurd (c.in_err-explorer.ensures.kind m (passed_on _ _ _ err.1 fault));
-      laws = program_laws c.run_laws.ensures c.args.program.now c.args.lines.now c.args.rules;
-    }
+pub returns-in_err-items-clause-laws : goal.returns-in_err-items-clause-laws
+returns-in_err-items-clause-laws c =
+    program_laws c.run_laws.ensures c.args.program.now c.args.lines.now c.args.rules
 
-pub returns-in-None : goal.returns-in-None
-returns-in-None c =
-    let e = c.in_ok-explorer.explorer in
-    let is = c.in_ok-explorer.ensures.before in
-    let kept = ap (λ (x : Exploration). x.kept) is in
-    record {
-      opened = rw c.in-None.is (is ∙ ap (λ runs. exploration c.args.program.now c.args.lines.now c.args.rules
-          (answers_of c.args.under.now) Start runs e.played) (sym kept));
-      beginning = c.in_ok-explorer.ensures.beginning;
-      run = rw c.in-None.is tt;
-      kept = rw c.in-None.is kept;
-      played = rw c.in-None.is c.in_ok-explorer.ensures.played;
-      no_beginning = λ _ fault. ok_no_err fault;
-      not_a_run = λ _ fault. ok_no_err fault;
-      mismatch = λ _ fault. ok_no_err fault;
-      run_mismatch = λ _ fault. ok_no_err fault;
-      laws = program_laws c.run_laws.ensures c.args.program.now c.args.lines.now c.args.rules;
-    }
+pub returns-in_err-runner-clause-laws : goal.returns-in_err-runner-clause-laws
+returns-in_err-runner-clause-laws c =
+    program_laws c.run_laws.ensures c.args.program.now c.args.lines.now c.args.rules
 
-pub returns-in-Some : goal.returns-in-Some
-returns-in-Some c =
-    let before = c.in_ok-explorer.explorer in
-    let is = c.in_ok-explorer.ensures.before in
-    let front = At (answers_of c.in-Some.list.now) in
-    let none = rw is at c.go_to.ensures.not_a_run in
-    let why = rw is at c.go_to.ensures.mismatch in
-    record {
-      opened = rw c.in-Some.is (IfOk-weaker c.go_to.result _ _
-          (λ e there. there ∙ ap (λ (x : Exploration). record x { front = front; kept = e.kept; played = e.played }) is)
-          c.go_to.ensures.there);
-      beginning = on_ok_always c.go_to.result c.in_ok-explorer.ensures.beginning;
-      run = rw c.in-Some.is (on_ok_both c.go_to.result (λ r b. record { run = r; begins = b })
-          (rw is at c.go_to.ensures.run) (rw is at c.go_to.ensures.begins));
-      kept = rw c.in-Some.is c.go_to.ensures.kept;
-      played = rw c.in-Some.is (IfOk-weaker c.go_to.result _ _
-          (λ e added. (before.played, c.in_ok-explorer.ensures.played, added)) (rw is at c.go_to.ensures.played));
-      no_beginning = λ m fault. absurd (c.go_to.ensures.kind m fault);
-      not_a_run = λ m fault. (
-        c.in_ok-explorer.ensures.beginning,
-        rw c.in-Some.is (λ r. none m fault r.run r.begins),
-      );
-      mismatch = λ m fault. absurd (c.go_to.ensures.kind m fault);
-      run_mismatch = λ m fault. rw c.in-Some.is (why c.args.under.now refl m fault);
-      laws = program_laws c.run_laws.ensures c.args.program.now c.args.lines.now c.args.rules;
-    }
+pub returns-in_err-check_beginning-clause-laws : goal.returns-in_err-check_beginning-clause-laws
+returns-in_err-check_beginning-clause-laws c =
+    program_laws c.run_laws.ensures c.args.program.now c.args.lines.now c.args.rules
+
+pub returns-in_err-check_beginning-clause-no_beginning : goal.returns-in_err-check_beginning-clause-no_beginning
+returns-in_err-check_beginning-clause-no_beginning c = λ m fault.
+    let p = c.args.program.now in
+    let input = c.args.lines.now in
+    let rules = c.args.rules in
+    let made = c.in_ok-runner.ensures in
+    mismatch_closes (play p input rules) (most_answers p input rules.limit) (c.run_laws.ensures.reads p input rules)
+    c.args.under.now m (misfit_opened p input rules c.args.under.now c.in_ok-runner.runner made.program made.lines
+    made.rules made.played m (c.in_err-check_beginning.ensures.mismatch m
+    (passed_on _ _ _ c.from_residual-in_err-check_beginning.ensures.1 fault)))
+
+-- what its runner is before it goes to a run, if it does
+before : (c : Joined-not-is_empty) → IsBefore c.args.program.now c.args.lines.now c.args.rules c.args.under.now
+    c.if-not-is_empty.runner
+before c =
+    let p = c.args.program.now in
+    let input = c.args.lines.now in
+    let rules = c.args.rules in
+    let list = c.args.under.now in
+    let made = c.in_ok-runner.ensures in
+    elim c.if-not-is_empty.branch [
+      | then-not-is_empty+in_ok-check_beginning w ↦ rw w.runner-is (before_begun p input rules list c.in_ok-runner.runner
+          made.program made.lines made.rules made.played w.check_beginning.new.self w.check_beginning.ensures.same
+          w.in_ok-check_beginning.ensures.none (sym c.is_empty.ensures ∙ w.if-not-is_empty.true)
+          w.in_ok-check_beginning.ensures.beginning w.in_ok-check_beginning.ensures.played)
+      | else-not-is_empty w ↦ rw w.runner-is (before_all p input rules list c.in_ok-runner.runner made.program made.lines
+          made.rules made.played made.none (most_answers p input rules.limit) (c.run_laws.ensures.reads p input rules)
+          (sym c.is_empty.ensures ∙ w.if-not-is_empty.false))
+    ]
+
+pub invariant_of-explorer : goal.invariant_of-explorer
+invariant_of-explorer c =
+    let is = before (goal.at.invariant_of-explorer c).Joined-not-is_empty in (
+      before_opens c.args.program.now c.args.lines.now c.args.rules c.args.under.now c.if-not-is_empty.runner is
+          c.in_ok-items.items.items c.in_ok-items.ensures,
+      is.none,
+    )
+
+pub invariant_of-explorer-in-Some : goal.invariant_of-explorer-in-Some
+invariant_of-explorer-in-Some c =
+    let is = before (goal.at.invariant_of-explorer-in-Some c).Joined-not-is_empty in (
+      before_opens c.args.program.now c.args.lines.now c.args.rules c.args.under.now c.if-not-is_empty.runner is
+          c.in_ok-items.items.items c.in_ok-items.ensures,
+      is.none,
+    )
+
+pub returns-in-None-clause-beginning : goal.returns-in-None-clause-beginning
+returns-in-None-clause-beginning c = (before (goal.at.returns-in-None-clause-beginning c).Joined-not-is_empty).beginning
+
+pub returns-in-None-clause-played : goal.returns-in-None-clause-played
+returns-in-None-clause-played c =
+    rw c.in-None.is (before (goal.at.returns-in-None-clause-played c).Joined-not-is_empty).played
+
+pub returns-in-None-clause-laws : goal.returns-in-None-clause-laws
+returns-in-None-clause-laws c =
+    program_laws c.run_laws.ensures c.args.program.now c.args.lines.now c.args.rules
+
+pub returns-in-Some-clause-beginning : goal.returns-in-Some-clause-beginning
+returns-in-Some-clause-beginning c =
+    on_ok_always c.go_to.result (before (goal.at.returns-in-Some-clause-beginning c).Joined-not-is_empty).beginning
+
+pub returns-in-Some-clause-played : goal.returns-in-Some-clause-played
+returns-in-Some-clause-played c =
+    let r = c.if-not-is_empty.runner in
+    let is = before (goal.at.returns-in-Some-clause-played c).Joined-not-is_empty in
+    let game = before_game c.args.program.now c.args.lines.now c.args.rules c.args.under.now r is in
+    let there = answers_of c.in-Some.list.now in
+    let added : IfOk c.go_to.result (λ e. IsAdded (game_of r) there r.played e.played) = c.go_to.ensures.played in
+    rw c.in-Some.is (IfOk-weaker c.go_to.result _ _ (λ e a. (
+      r.played,
+      is.played,
+      subst (λ (g : Answers → Outcome Finish (List ℕ)). IsAdded g there r.played e.played) game a,
+    )) added)
+
+pub returns-in-Some-clause-not_a_run : goal.returns-in-Some-clause-not_a_run
+returns-in-Some-clause-not_a_run c = λ m fault.
+    let r = c.if-not-is_empty.runner in
+    let is = before (goal.at.returns-in-Some-clause-not_a_run c).Joined-not-is_empty in
+    let game = before_game c.args.program.now c.args.lines.now c.args.rules c.args.under.now r is in
+    let list = c.in-Some.list.now in
+    let none : IsMarkedRun (game_of r) list
+    → begins_with (answers_of list) (answers_of c.in_ok-items.items.items) ≡ true → ⊥ =
+    c.go_to.ensures.not_a_run m fault in (
+      is.beginning,
+      rw c.in-Some.is (λ run. none (subst (λ (g : Answers → Outcome Finish (List ℕ)). IsMarkedRun g list) (sym game)
+          run.run) (rw c.in_ok-items.ensures run.begins)),
+    )
+
+pub returns-in-Some-clause-laws : goal.returns-in-Some-clause-laws
+returns-in-Some-clause-laws c =
+    program_laws c.run_laws.ensures c.args.program.now c.args.lines.now c.args.rules
