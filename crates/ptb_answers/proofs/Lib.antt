@@ -1,6 +1,7 @@
--- This file names the files of lemmas.
-pub mod Seeds
-pub mod NextDrawn
-pub mod Drawn
-pub mod Refusals
-pub mod Readers
+-- This file names the files of lemmas. Crates above may cite those of `PublicLemmas` alone.
+pub mod PublicLemmas
+mod Seeds
+mod NextDrawn
+mod Drawn
+mod Refusals
+mod Readers

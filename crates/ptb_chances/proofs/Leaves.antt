@@ -7,8 +7,8 @@ use Rattle.std.specs.List.{flat_map, range_with_len}
 use Rattle.ptb_answers.specs.Outcome.{Answers, Outcome, Done, Asks, IsReader, is_open, is_answer}
 use Rattle.ptb_machine.specs.Play.{Finish}
 use Rattle.ptb_explore.specs.RunTree.{answers_to, leaves, leaves_of}
-use Rattle.ptb_explore.proofs.Lists.{is_answer_from}
-use Rattle.ptb_answers.proofs.Readers.{open_is}
+use Rattle.ptb_explore.proofs.PublicLemmas.{is_answer_from}
+use Rattle.ptb_answers.proofs.PublicLemmas.{open_is}
 
 pub done_leaves : (f : Answers → Outcome Finish (List ℕ)) (d : ℕ) (q : Answers) (x : Finish) → f q ≡ Done x []
     → leaves f q d ≡ q ∷ []

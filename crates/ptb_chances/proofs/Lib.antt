@@ -1,20 +1,20 @@
 -- This file names the files of lemmas.
-pub mod Accounts
-pub mod PlaySteps
-pub mod Continuations
-pub mod Joined
-pub mod Coverage
-pub mod LastLines
-pub mod Leaves
-pub mod Loads
-pub mod Lowest
-pub mod Orders
-pub mod Picked
-pub mod Positive
-pub mod SettledPlays
-pub mod Sums
-pub mod Tables
-pub mod Tallies
-pub mod Texts
-pub mod Totals
-pub mod Worklists
+mod Accounts
+mod PlaySteps
+mod Continuations
+mod Joined
+mod Coverage
+mod LastLines
+mod Leaves
+mod Loads
+mod Lowest
+mod Orders
+mod Picked
+mod Positive
+mod SettledPlays
+mod Sums
+mod Tables
+mod Tallies
+mod Texts
+mod Totals
+mod Worklists

@@ -3,8 +3,7 @@
 use Rattle.std.proofs.Common.{◌≡◌, ℕ, zero, suc, ◌*◌, ◌/◌, ◌<◌, sym, ap, arith}
 use Rattle.std.proofs.Math.Nat.{pos_of_dvd_of_pos, mul-div_cancel'}
 use Rattle.ptb_numbers.specs.Fractions.{Ratio, Equals, IsLowest, gcd, lowest}
-use Rattle.ptb_numbers.proofs.Divisors.{coprime_quotients}
-use Rattle.ptb_numbers.proofs.LowestForms.{gcd_is, lowest_is}
+use Rattle.ptb_numbers.proofs.PublicLemmas.{coprime_quotients, gcd_is, lowest_is}
 use Rattle.ptb_chances.proofs.Sums.{equals_then}
 
 -- a factor of a number above 0 is above 0

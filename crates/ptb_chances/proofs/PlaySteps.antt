@@ -28,7 +28,7 @@ use Rattle.ptb_machine.specs.Steps.{FitsProgram, QuietTurns, Steps}
 use Rattle.ptb_machine.specs.TurnResults.{StepsTo, goes, ends, StepComes}
 use Rattle.ptb_explore.specs.Chances.{last_line}
 use Rattle.ptb_explore.specs.PlannedPlays.{run_from}
-use Rattle.ptb_explore.proofs.RunPrefix.{of_turn}
+use Rattle.ptb_explore.proofs.PublicLemmas.{of_turn}
 use Rattle.ptb_chances.specs.Planned.{PlanAnswers, plan_choices, RefusedByPlanAnswers}
 use Rattle.ptb_chances.specs.Standing.{SameEnd, StandsAt, Came, IsOver, IsAsked, PlaysTo, played_of}
 use Rattle.ptb_chances.specs.declared.plays.Played.{Played}

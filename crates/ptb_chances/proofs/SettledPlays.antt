@@ -20,8 +20,7 @@ use Rattle.ptb_explore.specs.Chances.{Row, RunResult, answer_count, bound_produc
 use Rattle.ptb_explore.specs.Chances.{last_line, result_of, result_order, runs_with}
 use Rattle.ptb_explore.specs.PlannedPlays.{run_from}
 use Rattle.ptb_explore.specs.RunTree.{answers_to, leaves, tree}
-use Rattle.ptb_explore.proofs.Bounds.{bounds-append}
-use Rattle.ptb_explore.proofs.Lists.{is_answer_from}
+use Rattle.ptb_explore.proofs.PublicLemmas.{bounds-append, is_answer_from}
 use Rattle.ptb_chances.specs.Accounts.{AddsRow, AreSame, IsAccountOf, HasChance, account, chance_in}
 use Rattle.ptb_chances.specs.Accounts.{chance_of_rows, runs_of_rows}
 use Rattle.ptb_chances.specs.Standing.{StandsAt, Came, IsOver, IsAsked}

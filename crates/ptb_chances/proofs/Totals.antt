@@ -16,7 +16,7 @@ use Rattle.ptb_machine.specs.Play.{Finish}
 use Rattle.ptb_explore.specs.Chances.{RunResult, Row, chance, chance_of_all, result_of}
 use Rattle.ptb_explore.specs.Chances.{result_order, results, row_of, runs_with, table}
 use Rattle.ptb_explore.specs.RunTree.{tree}
-use Rattle.ptb_explore.proofs.Chances.{whole_chance, sum_positive}
+use Rattle.ptb_explore.proofs.PublicLemmas.{whole_chance, sum_positive}
 use Rattle.ptb_chances.specs.Accounts.{has_result, rows_with, chance_of_rows, runs_of_rows, ArePositive, account}
 use Rattle.ptb_chances.specs.Order.{result_order_total}
 use Rattle.ptb_chances.specs.TableLaws.{TableLaws}

@@ -1,9 +1,9 @@
 -- This file names the files of lemmas.
-pub mod Readings
-pub mod Parts
-pub mod Endings
-pub mod Told
-pub mod Coded
-pub mod Rounds
-pub mod Progress
-pub mod Lawful
+mod Readings
+mod Parts
+mod Endings
+mod Told
+mod Coded
+mod Rounds
+mod Progress
+mod Lawful

@@ -1,24 +1,25 @@
--- This file names the files of lemmas.
-pub mod CommandOrder
-pub mod Commas
-pub mod FoundParts
-pub mod ReadItems
-pub mod Items
-pub mod ItemLoops
-pub mod CommandsLawful
-pub mod NewestOpens
-pub mod Nexts
-pub mod Prompts
-pub mod Placed
-pub mod Places
-pub mod Sequences
-pub mod AddedCode
-pub mod Translated
-pub mod Literals
-pub mod Letterless
-pub mod Showables
-pub mod PrintTranslation
-pub mod InputTranslation
-pub mod Sameness
-pub mod FirstParts
-pub mod FoundLoops
+-- This file names the files of lemmas. Crates above may cite those of `PublicLemmas` alone.
+pub mod PublicLemmas
+mod CommandOrder
+mod Commas
+mod FoundParts
+mod ReadItems
+mod Items
+mod ItemLoops
+mod CommandsLawful
+mod NewestOpens
+mod Nexts
+mod Prompts
+mod Placed
+mod Places
+mod Sequences
+mod AddedCode
+mod Translated
+mod Literals
+mod Letterless
+mod Showables
+mod PrintTranslation
+mod InputTranslation
+mod Sameness
+mod FirstParts
+mod FoundLoops

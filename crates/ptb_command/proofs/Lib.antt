@@ -1,33 +1,34 @@
--- This file names the files of lemmas.
-pub mod Borrows
-pub mod Assignments
-pub mod PartResults
-pub mod Actions
-pub mod DirectAnswers
-pub mod Dispatch
-pub mod CommandResults
-pub mod Effects
-pub mod Evaluations
-pub mod Due
-pub mod Gathered
-pub mod Exchanges
-pub mod LastOperations
-pub mod NextPlaces
-pub mod InputItems
-pub mod Jumps
-pub mod Lasts
-pub mod PartRefinement
-pub mod Parts
-pub mod PlainCommands
-pub mod Pieces
-pub mod RemainingOperations
-pub mod ShownPieces
-pub mod Shown
-pub mod Stops
-pub mod Calls
-pub mod MissedLines
-pub mod Nesting
-pub mod Loops
-pub mod WorkedParts
-pub mod LineAnswers
-pub mod ShownParts
+-- This file names the files of lemmas. Crates above may cite those of `PublicLemmas` alone.
+pub mod PublicLemmas
+mod Borrows
+mod Assignments
+mod PartResults
+mod Actions
+mod DirectAnswers
+mod Dispatch
+mod CommandResults
+mod Effects
+mod Evaluations
+mod Due
+mod Gathered
+mod Exchanges
+mod LastOperations
+mod NextPlaces
+mod InputItems
+mod Jumps
+mod Lasts
+mod PartRefinement
+mod Parts
+mod PlainCommands
+mod Pieces
+mod RemainingOperations
+mod ShownPieces
+mod Shown
+mod Stops
+mod Calls
+mod MissedLines
+mod Nesting
+mod Loops
+mod WorkedParts
+mod LineAnswers
+mod ShownParts

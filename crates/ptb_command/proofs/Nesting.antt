@@ -13,7 +13,7 @@ use Rattle.ptb_code.specs.declared.stack.Open.{Open}
 use Rattle.ptb_code.specs.declared.stack.Open.TheVariants as opens
 use Rattle.ptb_code.specs.Stacks.{call_of, loop_of, without}
 use Rattle.ptb_command.specs.Configuration.{Configuration}
-use Rattle.ptb_code.proofs.FoundLoops.{some_none, same_pair}
+use Rattle.ptb_code.proofs.PublicLemmas.{some_none, same_pair}
 use Rattle.ptb_code.specs.Locations.{PlaceIs}
 use Rattle.ptb_command.specs.Representation.{LoopIs, Nested, Represents}
 

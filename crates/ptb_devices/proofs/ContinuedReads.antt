@@ -18,8 +18,7 @@ use Rattle.ptb_text.specs.Streams.{ReadsWithin, reads_of}
 use Rattle.ptb_text.specs.declared.allowance.Piece.{Piece}
 use Rattle.ptb_text.specs.declared.allowance.Piece.TheVariants as pieces
 use Rattle.ptb_text.specs.declared.device_fault.DeviceFault.{DeviceFault}
-use Rattle.ptb_text.proofs.ByteCounts.{IsCounted_none}
-use Rattle.ptb_text.proofs.LimitedReads.{told_as}
+use Rattle.ptb_text.proofs.PublicLemmas.{IsCounted_none, told_as}
 use Rattle.ptb_devices.specs.declared.line_buffer.InputEnd.{InputEnd}
 use Rattle.ptb_devices.specs.declared.line_buffer.InputEnd.TheVariants.{Open, Ended, Failed, Exceeded}
 use Rattle.ptb_devices.specs.CutLines.{kept_bytes, whole_lines, last_piece, line_of_piece, Cuts}

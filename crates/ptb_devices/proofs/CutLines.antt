@@ -14,8 +14,7 @@ use Rattle.std.proofs.lemmas.List.Folds.{list_all-append}
 use Rattle.std.specs.List.{list_all}
 use Rattle.std.specs.Str.Lines.{strip_carriage_return}
 use Rattle.ptb_text.specs.Lines.{onto_first, pieces, tab_as_space, is_printable, line_limit, clean_line, input_lines}
-use Rattle.ptb_text.proofs.Edits.{both}
-use Rattle.ptb_text.proofs.Sound.{both_true}
+use Rattle.ptb_text.proofs.PublicLemmas.{both, both_true}
 use Rattle.ptb_devices.specs.CutLines.{IsClean, cleaned_byte, StayUpTo, with_byte, kept_bytes, whole_lines}
 use Rattle.ptb_devices.specs.CutLines.{last_piece, line_of_piece, Cuts, IsLine, AddsLines}
 use Rattle.ptb_devices.specs.CutLineLaws.{last_piece-append, whole_lines-append}

@@ -1,6 +1,7 @@
--- This file names the files of lemmas.
-pub mod CutLines
-pub mod ReadLines
-pub mod ContinuedReads
-pub mod WholeInputs
-pub mod GivenLines
+-- This file names the files of lemmas. Crates above may cite those of `PublicLemmas` alone.
+pub mod PublicLemmas
+mod CutLines
+mod ReadLines
+mod ContinuedReads
+mod WholeInputs
+mod GivenLines

@@ -7,7 +7,7 @@ use Rattle.ptb_text.specs.declared.allowance.Piece.TheVariants as pieces
 use Rattle.ptb_text.specs.declared.device_fault.DeviceFault.{DeviceFault}
 use Rattle.ptb_text.specs.Lines.{input_lines}
 use Rattle.ptb_text.specs.Streams.{Reads, ReadsWithin, reads_of}
-use Rattle.ptb_text.proofs.LimitedReads.{TakesUpTo, TakesUpTo_more, TakesUpTo_none, all_taken}
+use Rattle.ptb_text.proofs.PublicLemmas.{TakesUpTo, TakesUpTo_more, TakesUpTo_none, all_taken}
 use Rattle.ptb_devices.specs.CutLines.{line_of_piece, whole_lines, Cuts, AddsLines}
 use Rattle.ptb_devices.proofs.CutLines.{Cuts_more, input_lines-cut}
 

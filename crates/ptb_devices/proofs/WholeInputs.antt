@@ -11,7 +11,7 @@ use Rattle.ptb_text.specs.declared.allowance.Piece.TheVariants as pieces
 use Rattle.ptb_text.specs.declared.device_fault.DeviceFault.{DeviceFault}
 use Rattle.ptb_text.specs.declared.device_fault.DeviceFault.TheVariants.{Read, TooLong, Memory}
 use Rattle.ptb_text.specs.Streams.{ReadsUpTo, ReadsWithin, reads_of}
-use Rattle.ptb_text.proofs.LimitedReads.{ReadsUpTo_after}
+use Rattle.ptb_text.proofs.PublicLemmas.{ReadsUpTo_after}
 use Rattle.ptb_devices.specs.CutLines.{line_of_piece}
 use Rattle.ptb_devices.specs.Sources.{IsSourceFault}
 use Rattle.ptb_devices.proofs.ReadLines.{IsCutUpTo, lines_to_here}

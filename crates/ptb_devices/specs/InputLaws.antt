@@ -11,7 +11,7 @@ use Rattle.std.proofs.lemmas.List.{take_all}
 use Rattle.std.specs.Io.KnownBytes.{Consumes}
 use Rattle.std.proofs.KnownBytes.{Consumes-nil, Consumes-trans}
 use Rattle.ptb_text.specs.Device.{HasFailed, IsCounted}
-use Rattle.ptb_text.proofs.ByteCounts.{IsCounted_more, IsCounted_none}
+use Rattle.ptb_text.proofs.PublicLemmas.{IsCounted_more, IsCounted_none}
 use Rattle.ptb_devices.specs.declared.line_buffer.InputEnd.{InputEnd}
 use Rattle.ptb_devices.specs.declared.line_buffer.InputEnd.TheVariants.{Open, Ended, Failed, Exceeded}
 use Rattle.ptb_devices.specs.CutLines.{whole_lines, last_piece, line_of_piece, Cuts}

@@ -12,8 +12,7 @@ use Rattle.ptb_answers.specs.Choices.{Choices}
 use Rattle.ptb_answers.specs.Outcome.{Answers, Outcome, Done, IsReader, bounds, is_whole}
 use Rattle.ptb_answers.specs.Seeds.{RefusedForMemory, SeededAnswers, drawn_from, generator_after, seeded_choices}
 use Rattle.ptb_answers.specs.Drawn.{answers_by}
-use Rattle.ptb_answers.proofs.Drawn.{drawn_alone}
-use Rattle.ptb_answers.proofs.Seeds.{length-drawn, same_generator}
+use Rattle.ptb_answers.proofs.PublicLemmas.{drawn_alone, length-drawn, same_generator}
 use Rattle.ptb_command.specs.declared.ending.Ending.{Ending}
 use Rattle.ptb_command.specs.declared.ending.Ending.TheVariants as endings
 use Rattle.ptb_command.specs.Configuration.{Configuration}

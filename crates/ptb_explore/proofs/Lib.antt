@@ -1,42 +1,43 @@
--- This file names the files of lemmas.
-pub mod HeaderPrefixes
-pub mod ReportText
-pub mod AskedLists
-pub mod WrittenTexts
-pub mod Order
-pub mod EveryEnding
-pub mod Lists
-pub mod Tree
-pub mod Next
-pub mod RunsAfter
-pub mod Shares
-pub mod Bounds
-pub mod Chances
-pub mod RaisedAnswers
-pub mod Attempt
-pub mod RecorderPlans
-pub mod Recorded
-pub mod Given
-pub mod Trial
-pub mod Limits
-pub mod RunPrefix
-pub mod Keep
-pub mod NewestCopies
-pub mod Runners
-pub mod Opened
-pub mod Exits
-pub mod RestoredCopies
-pub mod ContinuedCopies
-pub mod Stated
-pub mod BegunRuns
-pub mod Progress
-pub mod WrittenReports
-pub mod Samples
-pub mod DrawnRuns
-pub mod Mismatches
-pub mod TakenItems
-pub mod Misfits
-pub mod ReportAnswers
-pub mod StoppedPlays
-pub mod StoppedPlans
-pub mod WrittenLines
+-- This file names the files of lemmas. Crates above may cite those of `PublicLemmas` alone.
+pub mod PublicLemmas
+mod HeaderPrefixes
+mod ReportText
+mod AskedLists
+mod WrittenTexts
+mod Order
+mod EveryEnding
+mod Lists
+mod Tree
+mod Next
+mod RunsAfter
+mod Shares
+mod Bounds
+mod Chances
+mod RaisedAnswers
+mod Attempt
+mod RecorderPlans
+mod Recorded
+mod Given
+mod Trial
+mod Limits
+mod RunPrefix
+mod Keep
+mod NewestCopies
+mod Runners
+mod Opened
+mod Exits
+mod RestoredCopies
+mod ContinuedCopies
+mod Stated
+mod BegunRuns
+mod Progress
+mod WrittenReports
+mod Samples
+mod DrawnRuns
+mod Mismatches
+mod TakenItems
+mod Misfits
+mod ReportAnswers
+mod StoppedPlays
+mod StoppedPlans
+mod WrittenLines

@@ -8,7 +8,7 @@ use Rattle.std.proofs.lemmas.Bool.{cases_Bool, and_parts, and_from}
 use Rattle.ptb_answers.specs.declared.form.Marked.{Marked}
 use Rattle.ptb_answers.specs.Outcome.{Answers, Outcome, Asks, IsReader, is_answer, is_open, is_whole, bound_of, bounds}
 use Rattle.ptb_answers.specs.AnswerText.{answers_of, with_bound}
-use Rattle.ptb_answers.proofs.Readers.{whole_is, open_is}
+use Rattle.ptb_answers.proofs.PublicLemmas.{whole_is, open_is}
 use Rattle.ptb_explore.specs.declared.mismatch.Mismatch.{Mismatch}
 use Rattle.ptb_explore.specs.declared.mismatch.Mismatch.TheVariants.{OutOfRange, OtherBound}
 use Rattle.ptb_explore.specs.declared.mismatch.Mismatch.TheVariants.{NoQuestion, Missing, NotUnder}

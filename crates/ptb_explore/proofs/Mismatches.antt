@@ -13,7 +13,7 @@ use Rattle.ptb_answers.specs.declared.form.Marked.{Marked}
 use Rattle.ptb_answers.specs.Outcome.{Answers, Outcome, Asks, IsReader, is_answer, is_open}
 use Rattle.ptb_answers.specs.Outcome.{bound_of, bounds, bounds_after}
 use Rattle.ptb_answers.specs.AnswerText.{answers_of, with_bound}
-use Rattle.ptb_answers.proofs.Readers.{whole_is, closed_is}
+use Rattle.ptb_answers.proofs.PublicLemmas.{whole_is, closed_is}
 use Rattle.ptb_explore.specs.declared.mismatch.Mismatch.{Mismatch}
 use Rattle.ptb_explore.specs.declared.mismatch.Mismatch.TheVariants.{OutOfRange, OtherBound}
 use Rattle.ptb_explore.specs.declared.mismatch.Mismatch.TheVariants.{NoQuestion, Missing, NotUnder}

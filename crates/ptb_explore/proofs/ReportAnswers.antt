@@ -17,7 +17,7 @@ use Rattle.ptb_answers.specs.AnswerText.{more_spelling, spelling, unmarked}
 use Rattle.ptb_answers.specs.declared.form.Form.{Form}
 use Rattle.ptb_answers.specs.declared.form.Form.TheVariants.{One, Two}
 use Rattle.ptb_answers.specs.declared.form.Marked.{Marked}
-use Rattle.ptb_answers.proofs.Readers.{whole_is}
+use Rattle.ptb_answers.proofs.PublicLemmas.{whole_is}
 use Rattle.ptb_machine.specs.Play.{Finish}
 use Rattle.ptb_explore.specs.ReportText.{report_text, field}
 use Rattle.ptb_explore.specs.Report.{report, report_of, ending_word}

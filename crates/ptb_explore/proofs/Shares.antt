@@ -9,7 +9,7 @@ use Rattle.std.proofs.lemmas.Int.{ints}
 use Rattle.std.specs.List.{flat_map, AllByRecursion}
 use Rattle.std.proofs.lemmas.Grind.{flat_map-append}
 use Rattle.ptb_answers.specs.Outcome.{Answers, Outcome, Asks, IsReader, is_answer, is_open}
-use Rattle.ptb_answers.proofs.Readers.{open_is, whole_is}
+use Rattle.ptb_answers.proofs.PublicLemmas.{open_is, whole_is}
 use Rattle.ptb_explore.specs.Laws.{ShareLaws}
 use Rattle.ptb_explore.specs.Listing.{text}
 use Rattle.ptb_explore.specs.Plans.{AllOnes, IsPlan}

@@ -11,8 +11,8 @@ use Rattle.std.proofs.lemmas.List.{take-append-drop, take-append-le, drop-append
 use Rattle.std.specs.List.{flat_map, filter}
 use Rattle.ptb_answers.specs.Outcome.{Answers, Outcome, Done, Asks, Out, IsReader, bound_of}
 use Rattle.ptb_answers.specs.Outcome.{bounds_after, is_answer, is_open, is_whole}
-use Rattle.ptb_answers.proofs.Readers.{Came, came, whole_is}
-use Rattle.ptb_answers.proofs.Readers.Came.{Gave, Asked, Refused}
+use Rattle.ptb_answers.proofs.PublicLemmas.{Came, came, whole_is}
+use Rattle.ptb_answers.proofs.PublicLemmas.Came.{Gave, Asked, Refused}
 use Rattle.ptb_explore.specs.Beginnings.{BeginningLaws, IsBeginning, stop, stopped}
 use Rattle.ptb_explore.specs.Laws.{TreeLaws}
 use Rattle.ptb_explore.specs.Listing.{text}

@@ -5,7 +5,7 @@ use Rattle.std.specs.Result.{OnOk, OnErr}
 use Rattle.std.proofs.lemmas.Result.{on_ok_weaker, on_err_weaker}
 use Rattle.std.specs.Io.KnownBytes.{Appends}
 use Rattle.ptb_text.specs.Device.{Gathers, TakesSome, HasFailed}
-use Rattle.ptb_text.proofs.GatheredBytes.{all_more, gathers_more, gathers_same, some_more, some_after}
+use Rattle.ptb_text.proofs.PublicLemmas.{all_more, gathers_more, gathers_same, some_more, some_after}
 use Rattle.ptb_answers.specs.AnswerText.{spelling}
 use Rattle.ptb_answers.specs.declared.form.Marked.{Marked}
 use Rattle.ptb_explore.specs.ReportText.{list_line, report_text}

@@ -1,22 +1,23 @@
--- This file names the files of lemmas.
-pub mod Evaluation
-pub mod Indices
-pub mod Marks
-pub mod Parts
-pub mod ChooserStates
-pub mod SpelledTrees
-pub mod TakenOperators
-pub mod Uniqueness
-pub mod Zeros
-pub mod WithZeros
-pub mod ValueReads
-pub mod TreeSteps
-pub mod Written
-pub mod PlainSteps
-pub mod AddedSteps
-pub mod ReadParts
-pub mod Starts
-pub mod Runs
-pub mod Coded
-pub mod TranslatedTrees
-pub mod ShortForms
+-- This file names the files of lemmas. Crates above may cite those of `PublicLemmas` alone.
+pub mod PublicLemmas
+mod Evaluation
+mod Indices
+mod Marks
+mod Parts
+mod ChooserStates
+mod SpelledTrees
+mod TakenOperators
+mod Uniqueness
+mod Zeros
+mod WithZeros
+mod ValueReads
+mod TreeSteps
+mod Written
+mod PlainSteps
+mod AddedSteps
+mod ReadParts
+mod Starts
+mod Runs
+mod Coded
+mod TranslatedTrees
+mod ShortForms

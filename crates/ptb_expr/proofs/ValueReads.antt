@@ -12,8 +12,8 @@ use Rattle.ptb_expr.specs.Store.{Cells, value_at, index_of, element_of, map_ok}
 use Rattle.ptb_answers.specs.Outcome.{answer, success, IsReader}
 use Rattle.ptb_expr.specs.Value.{fault, or_fault, operation, negation, absolute_value, random_number, value, target_of}
 use Rattle.ptb_expr.specs.Laws.{ValueLaws}
-use Rattle.ptb_answers.proofs.Readers.{success_reader, failure_reader, answer_reader, then_reader}
-use Rattle.ptb_answers.proofs.Readers.{bind_reader, bind_reader_alone}
+use Rattle.ptb_answers.proofs.PublicLemmas.{success_reader, failure_reader, answer_reader, then_reader}
+use Rattle.ptb_answers.proofs.PublicLemmas.{bind_reader, bind_reader_alone}
 
 pub or_fault_reader : {A : Type 0} (r : Result A FaultKind) (m : ℕ) → IsReader (or_fault r m) 0
 or_fault_reader (Ok v) m = success_reader v 0

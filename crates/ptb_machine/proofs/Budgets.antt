@@ -5,8 +5,8 @@
 -- Main lemma: `then_budget`.
 use Rattle.std.proofs.Common.{◌≡◌, ℕ, ◌+◌, ◌≤◌, length, refl, ap, sym, ◌∙◌, subst, arith}
 use Rattle.ptb_answers.specs.Outcome.{Answers, Outcome, Done, go_on, map_outcome, IsReader}
-use Rattle.ptb_answers.proofs.Readers.{Came, Gave, Asked, Refused, came, done_reader}
-use Rattle.ptb_answers.proofs.Readers.{then_reader_by, map_reader, wider_reader}
+use Rattle.ptb_answers.proofs.PublicLemmas.{Came, Gave, Asked, Refused, came, done_reader, then_reader_by}
+use Rattle.ptb_answers.proofs.PublicLemmas.{map_reader, wider_reader}
 
 pub record Budget {A W : Type 0} (f : Answers → Outcome A W) (most : ℕ) (left : A → ℕ) : Type 0 where
   pub reads : IsReader f most

@@ -10,8 +10,7 @@ use Rattle.ptb_answers.specs.Choices.{AsksFor, with_answers}
 use Rattle.ptb_answers.specs.Seeds.{SeededAnswers, RefusedForMemory, drawn_answer, drawn_from}
 use Rattle.ptb_answers.specs.Seeds.{generator_of, seeded_choices}
 use Rattle.ptb_answers.specs.Drawn.{answers_by, to_question}
-use Rattle.ptb_answers.proofs.Drawn.{Few, few_after}
-use Rattle.ptb_answers.proofs.Seeds.{same_generator}
+use Rattle.ptb_answers.proofs.PublicLemmas.{Few, few_after, same_generator}
 use Rattle.ptb_machine.specs.Laws.{RunLaws}
 use Rattle.ptb_answers.specs.declared.rules.Rules.{Rules}
 use Rattle.ptb_machine.specs.Play.{play}

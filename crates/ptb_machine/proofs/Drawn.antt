@@ -5,7 +5,7 @@ use Rattle.std.proofs.Common.{◌≡◌, ℕ}
 use Rattle.ptb_answers.specs.Outcome.{Answers, Outcome, IsReader}
 use Rattle.ptb_answers.specs.Seeds.{generator_of}
 use Rattle.ptb_answers.specs.Drawn.{answers_by}
-use Rattle.ptb_answers.proofs.Drawn.{answers_by-drawn, drawn_alone}
+use Rattle.ptb_answers.proofs.PublicLemmas.{answers_by-drawn, drawn_alone}
 use Rattle.ptb_machine.specs.Laws.{RunLaws}
 use Rattle.ptb_machine.specs.Play.{play}
 use Rattle.ptb_machine.specs.Questions.{most_answers}

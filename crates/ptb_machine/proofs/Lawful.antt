@@ -2,7 +2,7 @@
 -- Main lemmas: `run_laws` and `effect_laws`.
 use Rattle.std.proofs.Common.{arith}
 use Rattle.ptb_expr.specs.Laws.{ValueLaws}
-use Rattle.ptb_command.proofs.Effects.{input_part, parts_part, finish_end, command_change, act_keeps}
+use Rattle.ptb_command.proofs.PublicLemmas.{input_part, parts_part, finish_end, command_change, act_keeps}
 use Rattle.ptb_machine.proofs.Turns.{enough_turns, turn_change, turn_goes, all_by_turn, all_change}
 use Rattle.ptb_machine.proofs.Turns.{turns_by_turn, turns_shown, turns_steps}
 use Rattle.ptb_machine.proofs.PlayReads.{turns_read, play_reader}

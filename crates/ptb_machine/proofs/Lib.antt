@@ -1,30 +1,31 @@
--- This file names the files of lemmas.
-pub mod PlainEnds
-pub mod AppendedCode
-pub mod ProgramCodes
-pub mod ShortCommands
-pub mod KnownLoops
-pub mod Positions
-pub mod RunStart
-pub mod Budgets
-pub mod Endings
+-- This file names the files of lemmas. Crates above may cite those of `PublicLemmas` alone.
+pub mod PublicLemmas
+mod PlainEnds
+mod AppendedCode
+mod ProgramCodes
+mod ShortCommands
+mod KnownLoops
+mod Positions
+mod RunStart
+mod Budgets
+mod Endings
 mod Ends
-pub mod EndSpends
-pub mod Lawful
-pub mod PartsSpend
-pub mod PlayReads
-pub mod ProgramQuestions
+mod EndSpends
+mod Lawful
+mod PartsSpend
+mod PlayReads
+mod ProgramQuestions
 mod QuietTurns
-pub mod Results
-pub mod Runs
-pub mod SpentAnswers
+mod Results
+mod Runs
+mod SpentAnswers
 mod StepResults
-pub mod Steps
-pub mod Turns
+mod Steps
+mod Turns
 mod Underway
-pub mod Playing
-pub mod Taking
-pub mod Drawing
-pub mod Drawn
-pub mod Answering
-pub mod LinesRun
+mod Playing
+mod Taking
+mod Drawing
+mod Drawn
+mod Answering
+mod LinesRun

@@ -13,8 +13,8 @@ use Rattle.ptb_answers.specs.Outcome.{IsReader}
 use Rattle.ptb_expr.specs.Store.{Cells}
 use Rattle.ptb_expr.specs.Reading.{item_of, expression}
 use Rattle.ptb_expr.specs.Value.{Work, fault, random_number, value, target_of, or_fault}
-use Rattle.ptb_answers.proofs.Readers.{success_reader, failure_reader}
-use Rattle.ptb_expr.proofs.ValueReads.{random_number_reader}
+use Rattle.ptb_answers.proofs.PublicLemmas.{success_reader, failure_reader}
+use Rattle.ptb_expr.proofs.PublicLemmas.{random_number_reader}
 use Rattle.ptb_expr.specs.Laws.{ValueLaws}
 use Rattle.ptb_code.specs.Commands.{Part, Assign, Say, Width, Show, NewLine, Take, Letter, Operand, Defect}
 use Rattle.ptb_code.specs.State.{State}

@@ -8,7 +8,7 @@ use Rattle.std.proofs.lemmas.List.Sums.{sum_by-cons}
 use Rattle.ptb_text.specs.Statements.{Statements, StoredProgram}
 use Rattle.ptb_answers.specs.Outcome.{Answers, Outcome, Done, map_outcome, IsReader}
 use Rattle.ptb_expr.specs.Reading.{item_of}
-use Rattle.ptb_answers.proofs.Readers.{done_reader, then_reader_by, map_reader, wider_reader}
+use Rattle.ptb_answers.proofs.PublicLemmas.{done_reader, then_reader_by, map_reader, wider_reader}
 use Rattle.ptb_expr.specs.Laws.{ValueLaws}
 use Rattle.ptb_code.specs.Commands.{Command, letter_of}
 use Rattle.ptb_code.specs.State.{Place, State, first_state, text_of, next_command}
@@ -20,7 +20,7 @@ use Rattle.ptb_machine.specs.Questions.{command_questions, line_questions, most_
 use Rattle.ptb_machine.specs.Play.{Last, act_unless, turn_by, turn, after_turn, turns_within}
 use Rattle.ptb_machine.specs.Play.{all_turns, finish_of, turns, play}
 use Rattle.ptb_command.specs.Effects.{act_state, CommandChange}
-use Rattle.ptb_command.proofs.Effects.{act_keeps}
+use Rattle.ptb_command.proofs.PublicLemmas.{act_keeps}
 use Rattle.ptb_machine.proofs.Budgets.{Budget, wider_budget, done_budget, map_budget}
 use Rattle.ptb_machine.proofs.SpentAnswers.{left_for, Spends, wider_spends, then_spends, lines_cost, later}
 use Rattle.ptb_machine.proofs.PartsSpend.{parts_questions, parts_spends}

@@ -18,7 +18,7 @@ use Rattle.ptb_command.specs.Act.{report_bytes}
 use Rattle.ptb_command.specs.Traces.{Trace}
 use Rattle.ptb_command.specs.Reports.{IsShown}
 use Rattle.ptb_command.specs.Stops.{UnlessMissed, miss_of}
-use Rattle.ptb_command.proofs.MissedLines.{miss_unmissed}
+use Rattle.ptb_command.proofs.PublicLemmas.{miss_unmissed}
 use Rattle.ptb_machine.specs.CommandResults.{reported, result_of_stop, IsResultOf}
 use Rattle.ptb_machine.specs.RunDevices.{RunDevices, run_devices, lent}
 use Rattle.ptb_machine.specs.Steps.{step_miss}

@@ -34,10 +34,9 @@ use Rattle.ptb_machine.specs.PlayResults.{IsUnanswered, IsUnfinished, LacksInput
 use Rattle.ptb_machine.specs.Runs.{Runs, StopsAt}
 use Rattle.ptb_machine.specs.Steps.{IsStateBefore, Steps, QuietTurns}
 use Rattle.ptb_machine.specs.TurnResults.{StepsTo, goes, ends, StepComes}
-use Rattle.ptb_command.proofs.Effects.{begins_joined, takes_joined}
-use Rattle.ptb_command.proofs.Exchanges.{shows_then, exchanges_none, exchanges_then, no_lines, has_broken_from}
-use Rattle.ptb_command.proofs.PartRefinement.{leaves_itself, leaves_then, leaves_to, leaves_under, leaves_at}
-use Rattle.ptb_command.proofs.Stops.{asks_before}
+use Rattle.ptb_command.proofs.PublicLemmas.{begins_joined, takes_joined, shows_then, exchanges_none}
+use Rattle.ptb_command.proofs.PublicLemmas.{exchanges_then, no_lines, has_broken_from, leaves_itself, leaves_then}
+use Rattle.ptb_command.proofs.PublicLemmas.{leaves_to, leaves_under, leaves_at, asks_before}
 use Rattle.ptb_machine.proofs.Turns.{all_by_turn, turn_goes, all_change}
 
 -- ---- a turn, and the turns after it

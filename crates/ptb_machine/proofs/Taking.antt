@@ -22,7 +22,7 @@ use Rattle.ptb_devices.specs.InputLaws.{take-split, none_known}
 use Rattle.ptb_devices.specs.declared.reader_lines.ReaderLines.{ReaderLines}
 use Rattle.ptb_devices.specs.Readers.{line_input, line_reader, input_of, GivesFrom}
 use Rattle.ptb_devices.specs.Sources.{Loses, NoneLeft, ConsumesAtMost}
-use Rattle.ptb_devices.proofs.CutLines.{input_lines-cut}
+use Rattle.ptb_devices.proofs.PublicLemmas.{input_lines-cut}
 use Rattle.ptb_text.specs.Statements.{StoredProgram}
 use Rattle.ptb_answers.specs.declared.pause.Pause.{Pause}
 use Rattle.ptb_answers.specs.Outcome.{Answers}

@@ -12,7 +12,7 @@ use Rattle.ptb_machine.specs.Play.{Last, act_unless, turn_by, turn, after_turn, 
 use Rattle.ptb_machine.specs.Play.{all_turns, last_state, finish_of, after_step_result, turns}
 use Rattle.ptb_command.specs.Effects.{act_state, Begins, CommandChange}
 use Rattle.ptb_machine.specs.RunEffects.{run_shown, run_steps, TurnChange}
-use Rattle.ptb_command.proofs.Effects.{begins_itself, begins_joined, takes_itself, takes_joined, act_keeps}
+use Rattle.ptb_command.proofs.PublicLemmas.{begins_itself, begins_joined, takes_itself, takes_joined, act_keeps}
 
 -- ---- one turn
 

@@ -15,7 +15,7 @@ use Rattle.ptb_code.specs.Locations.{PlacesAre}
 use Rattle.ptb_command.specs.Representation.{Represents}
 use Rattle.ptb_code.specs.State.{Place, first_state}
 use Rattle.ptb_command.specs.Stops.{NotMissed, ReportsMissed}
-use Rattle.ptb_command.proofs.MissedLines.{missed_from, not_missed, not_missed_then}
+use Rattle.ptb_command.proofs.PublicLemmas.{missed_from, not_missed, not_missed_then}
 use Rattle.ptb_machine.specs.declared.fault.RunFault.{RunFault}
 use Rattle.ptb_machine.specs.declared.fault.RunFault.TheVariants as faults
 use Rattle.ptb_machine.specs.Play.{next_number}

@@ -1,2 +1,2 @@
 -- This file names the files of lemmas.
-pub mod SamePlaces
+mod SamePlaces

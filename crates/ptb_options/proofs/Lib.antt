@@ -1,15 +1,16 @@
--- This file names the files of lemmas.
-pub mod AnswerTexts
-pub mod ReadItems
-pub mod ItemWords
-pub mod ListFaults
-pub mod ListReturns
-pub mod ListsKept
-pub mod NumberRanges
-pub mod OptionReads
-pub mod ListedArgs
-pub mod Decisions
-pub mod NumberArguments
-pub mod NumberOptions
-pub mod NumberRules
-pub mod WrongValues
+-- This file names the files of lemmas. Crates above may cite those of `PublicLemmas` alone.
+pub mod PublicLemmas
+mod AnswerTexts
+mod ReadItems
+mod ItemWords
+mod ListFaults
+mod ListReturns
+mod ListsKept
+mod NumberRanges
+mod OptionReads
+mod ListedArgs
+mod Decisions
+mod NumberArguments
+mod NumberOptions
+mod NumberRules
+mod WrongValues

@@ -1,26 +1,26 @@
 -- This file names the files of lemmas.
-pub mod OnPrograms
-pub mod RunRows
-pub mod SeedRows
-pub mod ChoiceRows
-pub mod ProgramRows
-pub mod ExampleRows
-pub mod LongRunRows
-pub mod AllRows
-pub mod AfterRows
-pub mod BoundRows
-pub mod SampleRows
-pub mod ShareRows
-pub mod TextRows
-pub mod CommandLineRows
-pub mod ListRows
-pub mod SplitRows
-pub mod CheckRows
-pub mod ChanceRows
-pub mod LoadingRows
-pub mod ExpressionRows
-pub mod PlayRows
-pub mod TreeRows
-pub mod TableRows
-pub mod SampledRunRows
-pub mod MistakeRows
+mod OnPrograms
+mod RunRows
+mod SeedRows
+mod ChoiceRows
+mod ProgramRows
+mod ExampleRows
+mod LongRunRows
+mod AllRows
+mod AfterRows
+mod BoundRows
+mod SampleRows
+mod ShareRows
+mod TextRows
+mod CommandLineRows
+mod ListRows
+mod SplitRows
+mod CheckRows
+mod ChanceRows
+mod LoadingRows
+mod ExpressionRows
+mod PlayRows
+mod TreeRows
+mod TableRows
+mod SampledRunRows
+mod MistakeRows

@@ -13,8 +13,8 @@ use Rattle.ptb_answers.specs.declared.form.Marked.{Marked}
 use Rattle.ptb_answers.specs.AnswerText.{with_bound, without_bound}
 use Rattle.ptb_options.specs.AnswerLists.{IsAnswer, IsItem, SpellsNumber, SpellsItem, IsMisspelled, HasNoAnswers}
 use Rattle.ptb_rows.specs.Rows.{ListRows}
-use Rattle.ptb_options.proofs.AnswerTexts.{SpellsNumber-first, SpellsItem-first, item_is_number}
-use Rattle.ptb_options.proofs.AnswerTexts.{item_is_numbers, one_item, word_of_items, word_of_list}
+use Rattle.ptb_options.proofs.PublicLemmas.{SpellsNumber-first, SpellsItem-first, item_is_number, item_is_numbers}
+use Rattle.ptb_options.proofs.PublicLemmas.{one_item, word_of_items, word_of_list}
 
 -- a text of which one word writes no item
 by_word : (s : List ℕ) (i : ℕ) (w : List ℕ) → s ≢ codes "none" → i < length (slice_split (λ b. b == 44) s)

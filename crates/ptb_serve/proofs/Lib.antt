@@ -1,17 +1,17 @@
 -- This file names the files of lemmas.
-pub mod ReplyLaws
-pub mod ShareReplies
-pub mod Fronts
-pub mod Served
-pub mod PlainRuns
-pub mod Listed
-pub mod Mismatches
-pub mod Promises
-pub mod WholeInput
-pub mod Listing
+mod ReplyLaws
+mod ShareReplies
+mod Fronts
+mod Served
+mod PlainRuns
+mod Listed
+mod Mismatches
+mod Promises
+mod WholeInput
+mod Listing
 mod Lines
-pub mod Samples
-pub mod Splits
-pub mod Checks
-pub mod Tables
-pub mod Modes
+mod Samples
+mod Splits
+mod Checks
+mod Tables
+mod Modes

@@ -44,7 +44,7 @@ use Rattle.ptb_serve.specs.ServedRequests.{outcome_of, device_note, reports_note
 use Rattle.ptb_serve.specs.ServedRequests.{IsCheck, IsInput, ListsFewerOf, NeedsInput, NeedsWholeInput, ReadsForRun}
 use Rattle.ptb_serve.specs.ServedRequests.{Serves, ServesUnread, SilentBy, StopsForMemory}
 use Rattle.ptb_serve.proofs.Fronts.{note_is}
-use Rattle.ptb_machine.proofs.Playing.{takes_beginning}
+use Rattle.ptb_machine.proofs.PublicLemmas.{takes_beginning}
 use Rattle.ptb_serve.proofs.Served.{consumes_nothing, nothing_told}
 use Rattle.ptb_serve.proofs.Served.{serves_loaded, takes_nothing, replies_refusal}
 

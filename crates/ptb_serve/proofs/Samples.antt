@@ -22,7 +22,7 @@ use Rattle.ptb_explore.specs.Sampling.{WritesSample}
 use Rattle.ptb_options.specs.declared.request.Mode.{Mode}
 use Rattle.ptb_options.specs.declared.request.Mode.TheVariants as modes
 use Rattle.ptb_options.specs.declared.request.Request.{Request}
-use Rattle.ptb_machine.proofs.Playing.{takes_beginning}
+use Rattle.ptb_machine.proofs.PublicLemmas.{takes_beginning}
 use Rattle.ptb_machine.specs.Streams.{Writes as Output}
 use Rattle.ptb_serve.specs.declared.note.Note.{Note}
 use Rattle.ptb_serve.specs.declared.note.Note.TheVariants as notes

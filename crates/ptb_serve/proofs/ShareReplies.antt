@@ -9,7 +9,7 @@ use Rattle.std.proofs.lemmas.Bool.{and_from, le-leb}
 use Rattle.ptb_text.specs.Lines.{input_lines}
 use Rattle.ptb_text.specs.Statements.{StoredProgram}
 use Rattle.ptb_answers.specs.Outcome.{Answers, Outcome, Asks, IsReader, bound_of, bounds, is_answer, is_open}
-use Rattle.ptb_answers.proofs.Readers.{whole_is}
+use Rattle.ptb_answers.proofs.PublicLemmas.{whole_is}
 use Rattle.ptb_answers.specs.AnswerText.{answers_of, items_in, marked, unmarked, without_bound}
 use Rattle.ptb_answers.specs.declared.form.Form.{Form}
 use Rattle.ptb_answers.specs.declared.form.Form.TheVariants.{One, Two}
@@ -17,10 +17,8 @@ use Rattle.ptb_answers.specs.declared.form.Marked.{Marked}
 use Rattle.ptb_answers.specs.declared.rules.Rules.{Rules}
 use Rattle.ptb_machine.specs.Play.{Finish, play}
 use Rattle.ptb_machine.specs.Questions.{most_answers}
-use Rattle.ptb_explore.proofs.Bounds.{bounds-append, length-bounds}
-use Rattle.ptb_explore.proofs.Lists.{IsIn, in_contained}
+use Rattle.ptb_explore.proofs.PublicLemmas.{bounds-append, length-bounds, IsIn, in_contained, same_from}
 use Rattle.ptb_explore.specs.Beginnings.{BeginningLaws, IsBeginning, beginnings}
-use Rattle.ptb_explore.proofs.Order.{same_from}
 use Rattle.ptb_explore.specs.Laws.{ListingLaws, ShareLaws}
 use Rattle.ptb_explore.specs.Listing.{text}
 use Rattle.ptb_explore.specs.MarkedRuns.{IsMarkedBeginning, IsMarkedRun, is_bound, states_bounds}

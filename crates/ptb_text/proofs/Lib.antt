@@ -1,26 +1,27 @@
--- This file names the files of lemmas.
-pub mod Blanks
-pub mod Pairs
-pub mod Digits
-pub mod Words
-pub mod FoundParts
-pub mod TakenTokens
-pub mod ByteTests
-pub mod Edits
-pub mod Entries
-pub mod GatheredBytes
-pub mod LineParts
-pub mod Listed
-pub mod Loaded
-pub mod Numbers
-pub mod Pieces
-pub mod Pool
-pub mod PoolEdits
-pub mod Searches
-pub mod Sound
-pub mod Stored
-pub mod StoredTexts
-pub mod TakenPieces
-pub mod ByteCounts
-pub mod LimitedReads
-pub mod NextByte
+-- This file names the files of lemmas. Crates above may cite those of `PublicLemmas` alone.
+pub mod PublicLemmas
+mod Blanks
+mod Pairs
+mod Digits
+mod Words
+mod FoundParts
+mod TakenTokens
+mod ByteTests
+mod Edits
+mod Entries
+mod GatheredBytes
+mod LineParts
+mod Listed
+mod Loaded
+mod Numbers
+mod Pieces
+mod Pool
+mod PoolEdits
+mod Searches
+mod Sound
+mod Stored
+mod StoredTexts
+mod TakenPieces
+mod ByteCounts
+mod LimitedReads
+mod NextByte

@@ -2,7 +2,7 @@
 use Rattle.std.specs.Prelude.{◌≡◌, true, is_some, codes}
 use Rattle.std.proofs.Common.{refl, sym, ◌∙◌, rules}
 use Rattle.ptb_options.specs.Options.{entries_of, options_of}
-use Rattle.ptb_options.proofs.OptionReads.{first_of-get_str}
+use Rattle.ptb_options.proofs.PublicLemmas.{first_of-get_str}
 use Rattle.ptb.specs.Exits.{is_answered}
 use Rattle.ptb.proofs.Seeds.{no_seed_for_answers, no_seed_for_input, no_seed_for_output, same_presence, seed_for_none}
 use Rattle.ptb.proofs.arguments.draw_seed.Goals as goal

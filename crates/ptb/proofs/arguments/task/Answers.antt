@@ -1,6 +1,6 @@
 -- This file answers what is left to prove of `task`.
 use Rattle.std.specs.Prelude.{codes}
-use Rattle.ptb_options.proofs.OptionReads.{first_of-get_str}
+use Rattle.ptb_options.proofs.PublicLemmas.{first_of-get_str}
 use Rattle.ptb_options.specs.Options.{entries_of, options_of}
 use Rattle.ptb.proofs.Seeds.{asks_at}
 use Rattle.ptb.proofs.arguments.task.Goals as goal

@@ -1,7 +1,7 @@
 -- This file answers what is left to prove of `read_lines`.
 use Rattle.std.proofs.Common.{◌≡◌, Ok, refl, ap, true, false}
 use Rattle.ptb_text.specs.declared.device_fault.DeviceFault.TheVariants as faults
-use Rattle.ptb_text.proofs.LimitedReads.{falls}
+use Rattle.ptb_text.proofs.PublicLemmas.{falls}
 use Rattle.ptb_devices.proofs.ReadLines.{IsCutUpTo_more, IsCutUpTo_none}
 use Rattle.ptb_devices.proofs.WholeInputs.{told_all, told_failed, told_long, told_wanting}
 use Rattle.ptb_devices.proofs.whole_input.read_lines.Goals as goal

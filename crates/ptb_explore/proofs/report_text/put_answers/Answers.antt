@@ -11,7 +11,7 @@ use Rattle.ptb_answers.specs.declared.asked.Asked.{Asked}
 use Rattle.ptb_answers.specs.declared.form.Form.{Form}
 use Rattle.ptb_answers.specs.declared.form.Marked.{Marked}
 use Rattle.ptb_answers.specs.AnswerText.{item_text, in_form, spelling}
-use Rattle.ptb_text.proofs.GatheredBytes.{gathers_same, gathers_piece, some_piece}
+use Rattle.ptb_text.proofs.PublicLemmas.{gathers_same, gathers_piece, some_piece}
 use Rattle.ptb_explore.specs.ReportText.{asked_items}
 use Rattle.ptb_explore.proofs.AskedLists.{asked_at, length-asked_items}
 use Rattle.ptb_explore.proofs.ReportText.{pieces_of, whole_piece, piece_at, spelling_in_pieces, length-pieces_of}

@@ -6,7 +6,7 @@ use Rattle.std.proofs.lemmas.Result.{on_ok_weaker, on_err_weaker}
 use Rattle.ptb_text.specs.Device.{TakesSome}
 use Rattle.ptb_answers.specs.declared.form.Marked.{Marked}
 use Rattle.ptb_answers.specs.AnswerText.{bound_text, item_text}
-use Rattle.ptb_text.proofs.GatheredBytes.{gathers_same}
+use Rattle.ptb_text.proofs.PublicLemmas.{gathers_same}
 use Rattle.ptb_explore.proofs.report_text.put_item.Goals as goal
 use Rattle.ptb_explore.proofs.report_text.put_item.Goals.{After-as_bytes-answer, After-put_all-in-Some}
 

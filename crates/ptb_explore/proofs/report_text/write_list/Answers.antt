@@ -2,7 +2,7 @@
 use Rattle.std.proofs.Common.{◌∙◌}
 use Rattle.std.proofs.lemmas.Result.{IfOk-from_err, on_ok_weaker, on_err_weaker}
 use Rattle.ptb_explore.specs.ReportText.{asked_items}
-use Rattle.ptb_text.proofs.TakenPieces.{IfErr-passed}
+use Rattle.ptb_text.proofs.PublicLemmas.{IfErr-passed}
 use Rattle.ptb_explore.proofs.WrittenTexts.{on_err_always, failed_after, line_written, list_fails, line_fails}
 use Rattle.ptb_explore.proofs.report_text.write_list.Goals as goal
 

@@ -4,7 +4,7 @@ use Rattle.ptb_text.specs.Statements.{StoredProgram}
 use Rattle.ptb_command.specs.declared.ending.Ending.TheVariants as endings
 use Rattle.ptb_code.specs.Locations.{PlacesAre}
 use Rattle.ptb_code.specs.State.{Place}
-use Rattle.ptb_command.proofs.Borrows.{borrows_on}
+use Rattle.ptb_command.proofs.PublicLemmas.{borrows_on}
 use Rattle.ptb_machine.specs.Play.{next_number}
 use Rattle.ptb_machine.proofs.Ends.{end_broken}
 use Rattle.ptb_machine.proofs.Runs.{not_spent}

@@ -1,6 +1,6 @@
 -- This file answers what is left to prove of `run_to_end`.
 use Rattle.std.proofs.Common.{[], arith, inl, refl, rules}
-use Rattle.ptb_command.proofs.MissedLines.{not_missed}
+use Rattle.ptb_command.proofs.PublicLemmas.{not_missed}
 use Rattle.ptb_machine.specs.RunDevices.{run_devices}
 use Rattle.ptb_machine.specs.Runs.{IsRunToEnd}
 use Rattle.ptb_machine.proofs.Ends.{end_broken}

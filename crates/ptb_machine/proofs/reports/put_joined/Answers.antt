@@ -1,6 +1,6 @@
 -- This file answers what is left to prove of `put_joined`.
 use Rattle.std.proofs.Common.{◌∙◌, ◌++◌, refl}
-use Rattle.ptb_command.proofs.ShownPieces.{shown_then, unshown_first, three_shown, shown_same}
+use Rattle.ptb_command.proofs.PublicLemmas.{shown_then, unshown_first, three_shown, shown_same}
 use Rattle.ptb_machine.proofs.reports.put_joined.Goals as goal
 
 pub returns-in-Some : goal.returns-in-Some

@@ -1,7 +1,7 @@
 -- This file answers what is left to prove of `report`: each piece is shown, or the report ends there.
 use Rattle.std.proofs.Common.{◌∙◌, refl}
 use Rattle.ptb_command.specs.Act.{newline}
-use Rattle.ptb_command.proofs.ShownPieces.{shown_then, unshown_first, statement_line, report_shown, three_same}
+use Rattle.ptb_command.proofs.PublicLemmas.{shown_then, unshown_first, statement_line, report_shown, three_same}
 use Rattle.ptb_machine.proofs.reports.report.Goals as goal
 
 pub returns-in_err-put_joined : goal.returns-in_err-put_joined

@@ -1,7 +1,7 @@
 -- This file answers that an explorer is opened as a listing is to begin, or why it isn't.
 use Rattle.std.proofs.Common.{◌∙◌, ap, sym}
 use Rattle.ptb_answers.specs.AnswerText.{answers_of}
-use Rattle.ptb_explore.proofs.Exits.{on_ok_both}
+use Rattle.ptb_explore.proofs.PublicLemmas.{on_ok_both}
 use Rattle.ptb_machine.specs.Play.{play}
 use Rattle.ptb_serve.proofs.Fronts.{begun_at, items_answers, unbegun_at}
 use Rattle.ptb_serve.proofs.all_runs.explorer_from.Goals as goal

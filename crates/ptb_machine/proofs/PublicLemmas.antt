@@ -1,0 +1,4 @@
+-- This file passes on the lemmas that proofs of the crates above may cite. It declares none.
+
+pub use Rattle.ptb_machine.proofs.ProgramCodes.{next_ahead}
+pub use Rattle.ptb_machine.proofs.Playing.{takes_beginning}
