@@ -18,9 +18,6 @@ at_place f {u = u} {i = i} d e h = ap (f u) (sym e) ∙ ap (λ v. f v i) (sym d)
 pub at_first : {t u v : List ℕ} {j k : ℕ} → v ≡ u → k ≡ j → u ≡ t → (v ≡ t) × (k ≡ j)
 at_first d e same = (d ∙ same, e)
 
-pub at_next : {t u v : List ℕ} {i j k : ℕ} → v ≡ u → k ≡ j → (u ≡ t) × (j ≡ i) → (v ≡ t) × (k ≡ i)
-at_next d e there = (d ∙ there.0, e ∙ there.1)
-
 -- and the function word that was found there is one of them, too
 pub at_function : {t u : List ℕ} {i j k : ℕ} {w v : Word} → t ≡ u → i ≡ j → word_at Functions t i ≡ Some (w, k)
     → w ≡ v → word_at Functions u j ≡ Some (v, k)

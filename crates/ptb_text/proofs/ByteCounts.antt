@@ -24,16 +24,3 @@ IsCounted_more a b c (suc n) (suc k) first second = record {
   at_most = (omega (arith, first.at_most.0, second.at_most.0), omega (arith, first.at_most.1, second.at_most.1));
   exactly = λ _. omega (arith, first.exactly (omega arith), second.exactly (omega arith));
 }
-
--- what a read counts
-pub IsCounted_read : (x y n : ℕ) → x ≤ given_limit → GivesExactly x y n → IsCounted x y n
-IsCounted_read x y n within gives = record {
-  at_most = (omega (arith, within, gives), omega (arith, gives));
-  exactly = λ _. gives;
-}
-
-pub IsCounted_fault : (x y : ℕ) → y ≡ x → IsCounted x y 0
-IsCounted_fault x y same = record {
-  at_most = (omega (arith, same), omega (arith, same));
-  exactly = λ some. absurd (omega arith);
-}
