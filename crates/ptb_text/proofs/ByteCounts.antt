@@ -1,7 +1,7 @@
 -- This file proves how the counts of bytes add up while a reader is read in pieces.
 -- Main lemmas: `IsCounted_more` and `IsCounted_read`.
-use Rattle.std.proofs.Common.{◌≡◌, ℕ, zero, suc, ◌+◌, ◌≤◌, arith}
-use Rattle.ptb_text.specs.Device.{GivesExactly, IsCounted, given_limit}
+use Rattle.std.proofs.Common.{ℕ, zero, suc, ◌+◌, arith}
+use Rattle.ptb_text.specs.Device.{IsCounted}
 
 -- what is counted in parts is counted in the whole
 pub IsCounted_none : (a : ℕ) → IsCounted a a 0
