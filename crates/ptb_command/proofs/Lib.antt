@@ -31,3 +31,4 @@ pub mod Loops
 pub mod WorkedParts
 pub mod LineAnswers
 pub mod ShownParts
+pub mod TakenItems
