@@ -32,3 +32,4 @@ mod Loops
 mod WorkedParts
 mod LineAnswers
 mod ShownParts
+mod TakenItems

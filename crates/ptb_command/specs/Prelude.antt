@@ -18,6 +18,7 @@ pub use Rattle.ptb_code.specs.Commands.{Part, Assign, Show, Width, command_of, p
 pub use Rattle.ptb_code.specs.Reads.{IsNext}
 pub use Rattle.ptb_code.specs.Stacks.{ClosesNewer, loop_of}
 pub use Rattle.ptb_code.specs.State.{Place}
+pub use Rattle.ptb_code.specs.declared.operation.Operation.{Operation}
 pub use Rattle.ptb_code.specs.declared.stack.Open.{Open}
 pub use Rattle.ptb_code.specs.declared.stack.OpenLoop.{OpenLoop}
 pub use Rattle.ptb_command.specs.Act.{parts_action, answer_instead, item_action, value_action, target_action}
@@ -28,13 +29,13 @@ pub use Rattle.ptb_command.specs.CommandIo.{due_trace, SameBorrows, SameDevices}
 pub use Rattle.ptb_command.specs.Configuration.{Configuration}
 pub use Rattle.ptb_command.specs.Devices.{Devices, with_choices, refused_answers, nothing_refused, refused_by}
 pub use Rattle.ptb_command.specs.Devices.{screen_state, with_screen}
-pub use Rattle.ptb_command.specs.Executed.{IsExecuted}
+pub use Rattle.ptb_command.specs.Executed.{IsExecuted, code_of}
 pub use Rattle.ptb_command.specs.Execution.{Finishes, FinishesAsking}
 pub use Rattle.ptb_command.specs.Loops.{loop_of_open, AddsStep}
 pub use Rattle.ptb_command.specs.Reports.{IsShown}
 pub use Rattle.ptb_command.specs.Representation.{Begun}
 pub use Rattle.ptb_command.specs.ScreenOperations.{HasAsked, HasAnswered, StoresLine, ArePartsDone, IsOnlyItem}
-pub use Rattle.ptb_command.specs.ScreenOperations.{IsPartDone, IsPartShown, ShowsOrTakes}
+pub use Rattle.ptb_command.specs.ScreenOperations.{IsPartDone, IsPartShown, IsPartTaken, IsShort, ShowsOrTakes}
 pub use Rattle.ptb_command.specs.Stops.{Comes, ReportsMissed, miss_of}
 pub use Rattle.ptb_command.specs.Traces.{trace, with_due, RefinesPart, Trace, fresh_after}
 pub use Rattle.ptb_command.specs.Values.{IsValueOf}

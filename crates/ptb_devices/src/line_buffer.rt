@@ -213,14 +213,30 @@ impl LineBuffer {
 
 /// How many bytes the line in front of these bytes has, if its end is among them and the cleaned line
 /// is the same.
-// Not inlined, so that all that its loop needs is in registers.
-#[inline(never)]
+#[inline(always)]
 fn line_count(bytes: &[u8]) -> Option<usize>
     ensures line { IfSome result (λ n. IsLine (take n bytes.now) (take (n + 1) bytes.now)) }
     ensures within { IfSome result (λ n. n < length bytes.now) }
     ensures short { IfSome result (λ n. n ≤ line_limit) }
 {
-    let mut count = staying_blocks(bytes);
+    let count = staying_blocks(bytes);
+    if count <= LINE_LIMIT && count < bytes.len() && bytes[count] == b'\n' {
+        return Some(count);
+    }
+    line_count_from(bytes, count)
+}
+
+/// The same, if the cleaning leaves the bytes before a place as they are.
+// Not inlined: it is for the last bytes that came, and for lines that are changed.
+#[inline(never)]
+fn line_count_from(bytes: &[u8], from: usize) -> Option<usize>
+    requires stay { StayUpTo bytes.now from }
+    requires within { from ≤ length bytes.now }
+    ensures line { IfSome result (λ n. IsLine (take n bytes.now) (take (n + 1) bytes.now)) }
+    ensures within { IfSome result (λ n. n < length bytes.now) }
+    ensures short { IfSome result (λ n. n ≤ line_limit) }
+{
+    let mut count = from;
     while count < bytes.len() && stays(bytes[count]) {
         count += 1;
     }

@@ -1,9 +1,9 @@
 // This file has what INPUT asks for, `Request`, and asks for it.
 
-ghost use Rattle.std.specs.Prelude.{◌≡◌, ◌≤◌, ◌+◌, ℕ, List, [], ◌∷◌, ◌++◌, length, IfOk, IfSome, IsOk, IsSome};
+ghost use Rattle.std.specs.Prelude.{◌≡◌, ◌≤◌, ◌+◌, ℕ, List, [], ◌∷◌, ◌++◌, length, IfOk, IfSome, IsOk};
 ghost use Rattle.ptb_command.specs.Prelude.{IsTarget, Cells, goes_on, show, IsPromptIn, NamesOne, prompt_by, said_by};
-ghost use Rattle.ptb_command.specs.Prelude.{nothing_refused, due_trace, SameDevices, HasAsked, Comes};
-ghost use Rattle.ptb_code.specs.declared.operation.Destination.TheVariants as destinations;
+ghost use Rattle.ptb_command.specs.Prelude.{nothing_refused, due_trace, SameDevices, HasAsked, Comes, IsShort};
+ghost use Rattle.ptb_code.specs.declared.operation.Operation.TheVariants.{Input};
 
 use crate::command_io::CommandIo;
 use crate::execution::print::bytes_in;
@@ -76,21 +76,34 @@ fn show_prompt<C: Chooser, S: Screen, L: LineSource>(
     io.show(pending, b":")
 }
 
-/// The letter that a request names, and its name in the prompt, if the request says nothing before, the
-/// name is one byte, and there is room for the prompt and the answer.
-#[inline(always)]
-pub(crate) fn short_prompt(request: &Request<'_>, pending: &PendingOutput) -> Option<(Letter, u8)>
-    ensures letter { IfSome result (λ p. request.now.destination ≡ destinations.Letter p.0) }
-    ensures silent { IsSome result → request.now.said.now ≡ [] }
-    ensures name { IfSome result (λ p. request.now.name.now ≡ p.1 ∷ []) }
-    ensures room { IsSome result → length pending.now + 2 + ANSWER_ROOM ≤ PENDING_LIMIT }
-{
-    let Destination::Letter(letter) = request.destination else {
-        return None;
-    };
-    match (request.said, request.name) {
-        ([], [name]) if pending.room() >= 2 + ANSWER_ROOM => Some((letter, *name)),
-        _ => None,
+/// The item of an INPUT of a variable.
+#[derive(Clone, Copy)]
+pub(crate) struct ShortItem {
+    /// The variable.
+    pub(crate) letter: Letter,
+    /// What is shown before the colon of the prompt.
+    pub(crate) name: u8,
+}
+
+impl ShortItem {
+    /// The item of this prompt and destination, which are in this text, if it is of a variable whose
+    /// name is shown.
+    #[inline(always)]
+    pub(crate) fn new(text: &[u8], prompt: Prompt, destination: Destination) -> Option<ShortItem>
+        ensures { IfSome result (IsShort text.now (Input prompt destination)) }
+    {
+        let Prompt::Name(range) = prompt else {
+            return None;
+        };
+        let Destination::Letter(letter) = destination else {
+            return None;
+        };
+        let from = usize::from(range.from);
+        if usize::from(range.to) != from + 1 {
+            return None;
+        }
+        let name = *text.get(from)?;
+        Some(ShortItem { letter, name })
     }
 }
 

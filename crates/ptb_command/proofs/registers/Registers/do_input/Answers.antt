@@ -1,37 +1,87 @@
 -- This file answers what is left to prove of `Registers::do_input`.
-use Rattle.std.proofs.Common.{refl}
+use Rattle.std.proofs.Common.{refl, subst, sym}
+use Rattle.std.specs.Prelude.{IfSome, slice_get}
+use Rattle.ptb_code.specs.declared.operation.Operation.TheVariants.{Input}
+use Rattle.ptb_command.specs.declared.execution.parts.CodeInText.{CodeInText}
 use Rattle.ptb_command.specs.Configuration.{configuration}
+use Rattle.ptb_command.specs.ScreenOperations.{IsPartTaken}
 use Rattle.ptb_command.specs.Stops.{NotMissed}
 use Rattle.ptb_command.proofs.MissedLines.{missed_err}
 use Rattle.ptb_command.proofs.ShownParts.{shown_stops, shown_done}
+use Rattle.ptb_command.proofs.TakenItems.{item_taken}
 use Rattle.ptb_command.proofs.registers.Registers.do_input.Goals as goal
 
+-- the line at hand is not enough
+pub returns-then-not-is_stored : goal.returns-then-not-is_stored
+returns-then-not-is_stored g c =
+    let item = c.in-Some.item in
+    let taken = c.take_at_hand-taken.ensures c.line_at.result.1.now c.args.context.now.steps.now
+    (Input item.prompt item.destination) c.in-Some-new.ensures in
+    c.finish_input.ensures c.args.self.now.store c.args.io.now c.begin.new.self c.begin.ensures.pending
+    c.begin.ensures.width
+    (subst (λ l. IfSome (slice_get l 0) (λ operation. IsPartTaken g.C.Chooser g.S.Screen g.L.LineSource
+    c.line_at.result.1.now c.args.context.now.steps.now operation c.args.self.now.store
+    c.take_at_hand-taken.new.store c.args.io.now c.take_at_hand-taken.new.io c.begin.new.self
+    c.take_at_hand-taken.new.output c.take_at_hand-taken.result)) (sym c.in-Some.ensures.some.1) taken)
+
 pub returns-in_err-following : goal.returns-in_err-following
-returns-in_err-following g c = record {
-  given = c.in_err-following.ensures.given;
-  gives = c.in_err-following.ensures.gives;
-  acts = λ q t word from before count spent begun is.
-      shown_stops _ q _ _ _ t word from _ c.line_at.ensures.there begun is _ _ _ _ _
-      (record { place = refl; stack = refl; steps = refl })
-      _ _ c.from_residual.ensures.1 (λ there. c.in_err-following.ensures.comes before word from there);
-  missed = missed_err (g.L.LineSource.refused c.show_item.new.io.source.now)
-      (NotMissed c.args.io.now.rules.choose (g.L.LineSource.missed c.args.io.now.source.now) (g.L.LineSource.missed
-      c.show_item.new.io.source.now) (g.L.LineSource.most c.show_item.new.io.source.now))
-      _ _ c.from_residual.ensures.1 c.in_err-following.ensures.missed;
-  same = c.show_item.ensures.same;
-}
+returns-in_err-following g c =
+    let item = c.in-Some.item in
+    let code : CodeInText = record {
+      text = c.line_at.result.1;
+      operations = c.args.context.now.operations;
+      steps = c.args.context.now.steps;
+    } in
+    let taken = c.take_at_hand-taken.ensures c.line_at.result.1.now c.args.context.now.steps.now
+    (Input item.prompt item.destination) c.in-Some-new.ensures in
+    let done = c.in_err-following.ensures code c.args.self.now.store c.take_at_hand-taken.new.store c.args.io.now
+    (item_taken g.C.Chooser g.S.Screen g.L.LineSource g.met.L.LineSource.gives_none g.met.L.LineSource.gives_more
+    g.met.L.LineSource.falls code item c.in-Some.ensures.some c.args.self.now.store c.take_at_hand-taken.new.store
+    c.args.io.now c.take_at_hand-taken.new.io c.begin.new.self c.take_at_hand-taken.new.output
+    c.take_at_hand-taken.result (c.is_stored.ensures c.if-not-is_stored.false) c.begin.ensures.pending
+    c.begin.ensures.width taken) in
+    record {
+      given = done.given;
+      gives = done.gives;
+      acts = λ q t word from before count spent begun is.
+          shown_stops _ q _ _ _ t word from _ c.line_at.ensures.there begun is _ _ _ _ _
+          (record { place = refl; stack = refl; steps = refl })
+          _ _ c.from_residual.ensures.1 (λ there. done.comes before word from there);
+      missed = missed_err (g.L.LineSource.refused c.show_gathered.new.io.source.now)
+          (NotMissed c.args.io.now.rules.choose (g.L.LineSource.missed c.args.io.now.source.now) (g.L.LineSource.missed
+          c.show_gathered.new.io.source.now) (g.L.LineSource.most c.show_gathered.new.io.source.now))
+          _ _ c.from_residual.ensures.1 done.missed;
+      same = done.same;
+    }
 
 pub returns : goal.returns
-returns g c = record {
-  given = c.in_ok-following.ensures.given;
-  gives = c.in_ok-following.ensures.gives;
-  acts = λ q t word from before count spent begun is.
-      shown_done _ q _ _ _ t word from _ c.line_at.ensures.there begun is _
-      (record (configuration c.args.self.now count c.show_item.new.io.fresh spent) { cells = c.show_item.new.store })
-      _ _ _ (record { place = refl; stack = refl; steps = refl })
-      c.from.result refl c.command_laws.ensures c.in_ok-following.following c.from.ensures
-      (λ there. c.in_ok-following.ensures.ends word from there)
-      (λ there. c.in_ok-following.ensures.comes before word from there);
-  missed = c.in_ok-following.ensures.missed;
-  same = c.in_ok-following.ensures.same;
-}
+returns g c =
+    let item = c.in-Some.item in
+    let code : CodeInText = record {
+      text = c.line_at.result.1;
+      operations = c.args.context.now.operations;
+      steps = c.args.context.now.steps;
+    } in
+    let taken = c.take_at_hand-taken.ensures c.line_at.result.1.now c.args.context.now.steps.now
+    (Input item.prompt item.destination) c.in-Some-new.ensures in
+    let done = c.in_ok-following.ensures code c.args.self.now.store c.take_at_hand-taken.new.store c.args.io.now
+    (item_taken g.C.Chooser g.S.Screen g.L.LineSource g.met.L.LineSource.gives_none g.met.L.LineSource.gives_more
+    g.met.L.LineSource.falls code item c.in-Some.ensures.some c.args.self.now.store c.take_at_hand-taken.new.store
+    c.args.io.now c.take_at_hand-taken.new.io c.begin.new.self c.take_at_hand-taken.new.output
+    c.take_at_hand-taken.result (c.is_stored.ensures c.if-not-is_stored.false) c.begin.ensures.pending
+    c.begin.ensures.width taken) in
+    record {
+      given = done.given;
+      gives = done.gives;
+      acts = λ q t word from before count spent begun is.
+          shown_done _ q _ _ _ t word from _ c.line_at.ensures.there begun is _
+          (record (configuration c.args.self.now count c.show_gathered.new.io.fresh spent) {
+            cells = c.take_at_hand-taken.new.store;
+          })
+          _ _ _ (record { place = refl; stack = refl; steps = refl })
+          c.from.result refl c.command_laws.ensures c.in_ok-following.following c.from.ensures
+          (λ there. done.ends word from there)
+          (λ there. done.comes before word from there);
+      missed = done.missed;
+      same = done.same;
+    }

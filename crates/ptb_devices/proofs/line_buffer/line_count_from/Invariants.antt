@@ -1,8 +1,8 @@
--- This file says what the loop of `line_count` keeps.
+-- This file says what the loop of `line_count_from` keeps.
 use Rattle.std.proofs.Common.{◌≤◌, ◌-◌, length}
 use Rattle.ptb_text.specs.Lines.{line_limit}
 use Rattle.ptb_devices.proofs.CutLines.{KeepsUpTo}
-use Rattle.ptb_devices.proofs.line_buffer.line_count.Given as goal
+use Rattle.ptb_devices.proofs.line_buffer.line_count_from.Given as goal
 
 -- the bytes before the index are kept as they are, unless they are too many
 abbrev pub invariant-loop-count : goal.invariant-loop-count
