@@ -9,6 +9,7 @@ pub mod Leaves
 pub mod Loads
 pub mod Lowest
 pub mod Orders
+pub mod PassedOn
 pub mod Picked
 pub mod Positive
 pub mod SettledPlays
