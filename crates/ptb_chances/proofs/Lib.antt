@@ -18,3 +18,4 @@ mod Tallies
 mod Texts
 mod Totals
 mod Worklists
+mod PassedOn

@@ -1,7 +1,7 @@
 // This file adds up the chances of all runs of a program. Plays that come to the same place are
 // continued together.
 
-ghost use Rattle.std.specs.Prelude.{◌≡◌, ◌<◌, ◌∷◌, IfOk, OnOk};
+ghost use Rattle.std.specs.Prelude.{◌≡◌, ◌<◌, [], ◌∷◌, IfOk, OnOk};
 ghost use Rattle.ptb_chances.specs.Prelude.{lines, play, most_answers, last_line, tree, AddsRow, IsAccountOf};
 ghost use Rattle.ptb_chances.specs.Prelude.{IsTallied, load_left, planned, standings};
 
@@ -50,6 +50,40 @@ struct Count<'p, 'l> {
 }
 
 impl<'p, 'l> Count<'p, 'l> {
+    // No run is counted yet, and one play is left to be played, from the beginning of the program.
+    fn begin(
+        alloc: Global,
+        program: &'p Program,
+        lines: &'l [Line],
+        rules: Rules,
+    ) -> Result<Count<'p, 'l>, AllocError>
+        ensures program { IfOk result (λ count. count.stage.player ≡ program.now) }
+        ensures lines { IfOk result (λ count. count.stage.console.source.lines ≡ lines.now) }
+        ensures rules { IfOk result (λ count. count.stage.rules ≡ rules) }
+        ensures counted { IfOk result (λ count.
+            IsTallied count.stage count.tally (standings count.work)) }
+    {
+        run_laws();
+        let player = Player::new(alloc, program)?;
+        let trial = player.machine(alloc)?;
+        let work = Worklist::begin(alloc, &player)?;
+        let console = Console {
+            screen: TextScreen::new(alloc),
+            source: Lines::new(lines),
+        };
+        Ok(Count {
+            stage: Stage {
+                player,
+                rules,
+                trial,
+                console,
+                before: Place::new(alloc),
+            },
+            work,
+            tally: Tally::new(alloc),
+        })
+    }
+
     // Plays a plan that was taken out of the work. Plays that are over are counted; others are put back.
     fn settle(&mut self, alloc: Global, plan: Plan) -> Result<(), AllocError>
         requires { IsTallied self.old.stage self.old.tally
@@ -69,17 +103,12 @@ impl<'p, 'l> Count<'p, 'l> {
         match played {
             Played::Over(ending) => {
                 let shown = self.stage.console.screen.bytes();
-                add_over(alloc, ending, shown, &plan, &mut self.tally)?;
-                Ok(())
+                add_over(alloc, ending, shown, &plan, &mut self.tally)
             }
-            Played::Asks(bound) => {
-                self.work.add_plans(alloc, &plan, bound)?;
-                Ok(())
-            }
+            Played::Asks(bound) => self.work.add_plans(alloc, &plan, bound),
             Played::Goes => {
                 let place = std::mem::replace(&mut self.stage.before, Place::new(alloc));
-                self.work.add(alloc, plan.at(place))?;
-                Ok(())
+                self.work.add(alloc, plan.at(place))
             }
         }
     }
@@ -92,6 +121,28 @@ impl<'p, 'l> Count<'p, 'l> {
         if let Ok(billionths) = self.tally.billionths(alloc) {
             watch.show(self.work.waiting(), billionths);
         }
+    }
+    // Counts all that is left to be played.
+    fn finish<W: Watch>(&mut self, alloc: Global, watch: &W) -> Result<(), AllocError>
+        requires { IsTallied self.old.stage self.old.tally (standings self.old.work) }
+        ensures { OnOk result (IsTallied self.old.stage self.new.tally []) }
+    {
+        let mut played: u32 = 0;
+        'plans: loop {
+            let Some(plan) = self.work.next(alloc) else {
+                return Ok(());
+            };
+            self.settle(alloc, plan)?;
+            played = played.wrapping_add(1);
+            self.show(alloc, played, watch);
+        }
+    }
+
+    // What is counted so far.
+    fn into_tally(mut self, alloc: Global) -> Tally
+        ensures { result ≡ self.entry.tally }
+    {
+        std::mem::replace(&mut self.tally, Tally::new(alloc))
     }
 }
 
@@ -111,33 +162,9 @@ pub(crate) fn count_runs<W: Watch>(
         (tree (play program.now lines.now rules)
         (most_answers program.now lines.now rules.limit))) }
 {
-    run_laws();
-    let player = Player::new(alloc, program)?;
-    let trial = player.machine(alloc)?;
-    let work = Worklist::begin(alloc, &player)?;
-    let console = Console {
-        screen: TextScreen::new(alloc),
-        source: Lines::new(lines),
-    };
-    let mut counting = Count {
-        stage: Stage {
-            player,
-            rules,
-            trial,
-            console,
-            before: Place::new(alloc),
-        },
-        work,
-        tally: Tally::new(alloc),
-    };
-    let mut played: u32 = 0;
-    'plans: loop {
-        let Some(plan) = counting.work.next(alloc) else {
-            let Count { tally, .. } = counting;
-            return Ok(tally);
-        };
-        counting.settle(alloc, plan)?;
-        played = played.wrapping_add(1);
-        counting.show(alloc, played, watch);
-    }
+    let mut counting = Count::begin(alloc, program, lines, rules)?;
+    let finished = counting.finish(alloc, watch);
+    let tally = counting.into_tally(alloc);
+    finished?;
+    Ok(tally)
 }

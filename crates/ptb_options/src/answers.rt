@@ -17,7 +17,7 @@ use std::marker::Model;
 /// 32767; the type holds any.
 ///
 /// [`From`] makes it of a `Vec`, and [`ItemList::into_vec`] returns that; neither takes memory.
-#[derive(Debug, Drop)]
+#[derive(Drop)]
 pub struct ItemList<T> {
     items: Vec<T>,
 }

@@ -12,7 +12,7 @@ pub const DEFAULT_STEPS: u32 = 10_000;
 pub const DEFAULT_MEMORY: u16 = 4096;
 
 /// What is done with the program.
-#[derive(Debug, Drop)]
+#[derive(Drop)]
 pub enum Mode {
     /// It is run once, with these answers.
     Plain(Answers),
@@ -57,7 +57,7 @@ pub enum Mode {
 }
 
 /// What the tool is asked to do.
-#[derive(Debug, Drop)]
+#[derive(Drop)]
 pub struct Request {
     /// The rules of its runs: the most commands that a run begins, 1 to 1,000,000,000, and the bound
     /// with which INPUT asks for an answer where no line is left, if it does, 1 to 32767.

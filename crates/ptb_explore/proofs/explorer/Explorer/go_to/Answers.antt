@@ -56,6 +56,9 @@ returns c =
       memory = ok_no_err;
     }
 
+pub returns-then-not-items_begin_with-clause-memory : goal.returns-then-not-items_begin_with-clause-memory
+returns-then-not-items_begin_with-clause-memory c = λ fault. absurd cc
+
 pub returns-in_err-check_run-clause-not_a_run : goal.returns-in_err-check_run-clause-not_a_run
 returns-in_err-check_run-clause-not_a_run c = λ m fault run _.
     let r = c.self.inside.runner in

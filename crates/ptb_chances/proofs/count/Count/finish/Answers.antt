@@ -1,0 +1,39 @@
+-- This file answers that all runs stay accounted for, up to the last.
+use Rattle.std.proofs.Common.{rules, ◌≡◌, List, [], subst, ◌∙◌}
+use Rattle.ptb_chances.specs.Counted.{IsTallied}
+use Rattle.ptb_chances.specs.Waiting.{Standing, planned, standings}
+use Rattle.ptb_chances.proofs.Loads.{less_there}
+use Rattle.ptb_chances.proofs.SettledPlays.{accounted_next}
+use Rattle.ptb_chances.proofs.count.Count.finish.Goals as goal
+
+pub settle-requires : goal.settle-requires
+settle-requires g c =
+    let i = c.plans.invariant in
+    rw (i.player, i.lines, i.rules) (accounted_next _ _ _ _ _ _ _ _ c.in-Some.ensures.some i.accounted)
+
+pub plans-smaller : goal.plans-smaller
+plans-smaller g c =
+    let s = c.args.self.now.stage in
+    let l = c.plans in
+    let i = l.invariant in
+    less_there s.player l.self.stage.player s.console.source.lines l.self.stage.console.source.lines s.rules
+    l.self.stage.rules (standings l.self.work) (standings c.next.new.self) (standings c.settle.new.self.work)
+    (planned c.next.new.self.place c.in-Some.plan) i.player i.lines i.rules c.in-Some.ensures.some
+    c.in_ok-settle.ensures.less
+
+pub plans-preserved : goal.plans-preserved
+plans-preserved g c =
+    let l = c.plans in
+    let i = l.invariant in
+    record {
+      player = c.settle.ensures.player ∙ i.player;
+      lines = c.settle.ensures.lines ∙ i.lines;
+      rules = c.settle.ensures.rules ∙ i.rules;
+      accounted = rw (i.player, i.lines, i.rules) at c.in_ok-settle.ensures.counted;
+    }
+
+pub returns-in_default : goal.returns-in_default
+returns-in_default g c =
+    let none : standings c.plans.self.work ≡ [] = search rules in
+    subst (λ (ws : List Standing). IsTallied c.args.self.now.stage c.plans.self.tally ws) none
+    c.plans.invariant.accounted

@@ -1,0 +1,16 @@
+-- This file says that with what is left to be played, the tally is the account of all runs.
+use Rattle.std.proofs.Common.{◌≡◌}
+use Rattle.ptb_chances.specs.Counted.{IsTallied, load_left}
+use Rattle.ptb_chances.specs.Waiting.{standings}
+use Rattle.ptb_chances.proofs.count.Count.finish.Given as goal
+
+abbrev pub invariant-plans : goal.invariant-plans
+invariant-plans g l = record {
+  player : l.self.stage.player ≡ l.fn.self.stage.player;
+  lines : l.self.stage.console.source.lines ≡ l.fn.self.stage.console.source.lines;
+  rules : l.self.stage.rules ≡ l.fn.self.stage.rules;
+  accounted : IsTallied l.fn.self.stage l.self.tally (standings l.self.work);
+}
+
+abbrev pub decreases-plans : goal.decreases-plans
+decreases-plans g l = load_left l.fn.self.stage (standings l.self.work)
