@@ -15,7 +15,7 @@ pub use Rattle.ptb_expr.specs.Starts.{BeginsFactor, IsBefore, start_room, sign_o
 pub use Rattle.ptb_expr.specs.Stops.{HasResult, Ends, IfFull}
 pub use Rattle.ptb_expr.specs.Store.{map_ok}
 pub use Rattle.ptb_expr.specs.Translation.{AreStepsOf, IsMalformed, IsVariableRead, IsVariable}
-pub use Rattle.ptb_expr.specs.TreeSteps.{plain_step, after_step, run}
+pub use Rattle.ptb_expr.specs.TreeSteps.{plain_step, after_step, run, waiting}
 pub use Rattle.ptb_expr.specs.Value.{fault, in_range, truth, operation, negation, absolute_value, chosen, random_number}
 pub use Rattle.ptb_expr.specs.declared.fault.FaultKind.TheVariants.{What, How}
 pub use Rattle.ptb_expr.specs.declared.step.Step.TheVariants.{Fail}

@@ -13,4 +13,7 @@ returns c =
     fits_signed_mul w32 c.args.left c.args.right 32768 32768 (search rules) (search rules) (search rules) in
     let product : to_z w32 (of_z w32 (c.args.left *ℤ c.args.right)) ≡ c.args.left *ℤ c.args.right =
     to_z-of_z w32 _ fits in
-    rw (left, right, wide_left, wide_right, product) at c.in_range.ensures
+    record {
+      value = rw (left, right, wide_left, wide_right, product) at c.in_range.ensures.value;
+      none = rw (left, right, wide_left, wide_right, product) at c.in_range.ensures.none;
+    }
