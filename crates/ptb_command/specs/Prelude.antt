@@ -36,7 +36,7 @@ pub use Rattle.ptb_command.specs.Reports.{IsShown}
 pub use Rattle.ptb_command.specs.Representation.{Begun}
 pub use Rattle.ptb_command.specs.ScreenOperations.{HasAsked, HasAnswered, StoresLine, ArePartsDone, IsOnlyItem}
 pub use Rattle.ptb_command.specs.ScreenOperations.{IsPartDone, IsPartShown, IsPartTaken, IsShort, ShowsOrTakes}
-pub use Rattle.ptb_command.specs.Stops.{Comes, ReportsMissed, miss_of}
+pub use Rattle.ptb_command.specs.Stops.{Comes, ReportsMissed, miss_of, stopped}
 pub use Rattle.ptb_command.specs.Traces.{trace, with_due, RefinesPart, Trace, fresh_after}
 pub use Rattle.ptb_command.specs.Values.{IsValueOf}
 pub use Rattle.ptb_command.specs.declared.command_io.CommandIo.{CommandIo}

@@ -4,12 +4,13 @@ ghost use Rattle.std.specs.Prelude.{◌≡◌, ◌≤◌, ◌+◌, List, ℕ, []
 ghost use Rattle.ptb_expr.specs.Store.{Cells};
 ghost use Rattle.ptb_command.specs.Actions.{goes_on, show as show_action};
 ghost use Rattle.ptb_command.specs.Devices.{nothing_refused};
-ghost use Rattle.ptb_command.specs.Stops.{Comes};
+ghost use Rattle.ptb_command.specs.Stops.{Comes, stopped};
 
 use crate::pending_output::{PENDING_LIMIT, PendingOutput};
 use crate::stop::Stop;
 use ptb_answers::{Chooser, Rules};
 use ptb_devices::{LineSource, Screen};
+use ptb_text::DeviceFault;
 
 /// What a command asks, shows and reads.
 #[derive(Drop)]
@@ -93,13 +94,17 @@ impl<'a, C: Chooser, S: Screen, L: LineSource> CommandIo<'a, C, S, L> {
     }
 
     /// Shows what was gathered. Nothing is gathered then, also where the screen fails.
+    ///
+    /// # Errors
+    ///
+    /// [`DeviceFault`] where the screen doesn't show it all.
     // Inlined, as are the others, so that the devices stay in registers of the processor.
     #[inline(always)]
-    pub(crate) fn flush(&mut self, pending: &mut PendingOutput) -> Result<(), Stop>
+    pub(crate) fn flush(&mut self, pending: &mut PendingOutput) -> Result<(), DeviceFault>
         ensures comes { (given : List (List ℕ)) (cells : Cells) → Comes nothing_refused
             (due_trace C.choices S.Screen L.most self.old given cells pending.old)
             (io_trace C.choices S.Screen L.most self.new given cells)
-            (goes_on tt) goes_on result }
+            (goes_on tt) goes_on (stopped result) }
         ensures empty { pending.new ≡ [] }
         ensures chooser { self.new.chooser ≡ self.old.chooser }
         ensures same { SameDevices self.old self.new }

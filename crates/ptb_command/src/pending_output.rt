@@ -3,12 +3,12 @@
 ghost use Rattle.std.specs.Prelude.{◌≡◌, ◌↔◌, ◌≤◌, ◌+◌, ◌++◌, ◌∷◌, List, ℕ, [], length, IsTrue, IsFalse};
 ghost use Rattle.std.specs.Prelude.{drop, take};
 ghost use Rattle.ptb_command.specs.Prelude.{Cells, goes_on, show_action, Devices, screen_state, with_screen};
-ghost use Rattle.ptb_command.specs.Prelude.{nothing_refused, trace, with_due, Comes};
+ghost use Rattle.ptb_command.specs.Prelude.{nothing_refused, stopped, trace, with_due, Comes};
 
-use crate::output::show;
+use crate::output::{put, show};
 use crate::stop::Stop;
 use ptb_devices::Screen;
-use ptb_text::ByteBuffer;
+use ptb_text::{ByteBuffer, DeviceFault};
 use std::marker::Model;
 
 /// How many bytes are gathered at most. An item of PRINT shows no more than 255.
@@ -138,15 +138,24 @@ impl PendingOutput {
     }
 
     /// Shows what was gathered. Nothing is gathered then, also where the screen fails.
-    pub(crate) fn flush<S: Screen>(&mut self, screen: &mut S, fresh: &mut bool) -> Result<(), Stop>
+    ///
+    /// # Errors
+    ///
+    /// [`DeviceFault`] where the screen doesn't show it all. It is not made a [`Stop`] here, which is
+    /// large.
+    pub(crate) fn flush<S: Screen>(
+        &mut self,
+        screen: &mut S,
+        fresh: &mut bool,
+    ) -> Result<(), DeviceFault>
         ensures comes { (d : Devices) (cells : Cells) → Comes nothing_refused
             (with_due self.old
             (trace (with_screen (screen_state S.Screen screen.old) d) fresh.old cells))
             (trace (with_screen (screen_state S.Screen screen.new) d) fresh.new cells)
-            (goes_on tt) goes_on result }
+            (goes_on tt) goes_on (stopped result) }
         ensures empty { self.new ≡ [] }
     {
-        let result = show(screen, fresh, self.as_slice());
+        let result = put(screen, fresh, self.as_slice());
         self.clear();
         result
     }

@@ -1,5 +1,5 @@
 -- This file answers what is left to prove of `Registers::do_input`.
-use Rattle.std.proofs.Common.{refl, subst, sym}
+use Rattle.std.proofs.Common.{◌∙◌, Err, Ok, ap, false, refl, subst, sym}
 use Rattle.std.specs.Prelude.{IfSome, slice_get}
 use Rattle.ptb_code.specs.declared.operation.Operation.TheVariants.{Input}
 use Rattle.ptb_command.specs.declared.execution.parts.CodeInText.{CodeInText}
@@ -12,17 +12,38 @@ use Rattle.ptb_command.proofs.TakenItems.{item_taken}
 use Rattle.ptb_command.proofs.registers.Registers.do_input.Goals as goal
 
 -- the line at hand is not enough
-pub returns-then-not-is_stored : goal.returns-then-not-is_stored
-returns-then-not-is_stored g c =
+
+pub returns-in-Ok-false : goal.returns-in-Ok-false
+returns-in-Ok-false g c =
     let item = c.in-Some.item in
-    let taken = c.take_at_hand-taken.ensures c.line_at.result.1.now c.args.context.now.steps.now
+    let taken = c.take_at_hand.ensures c.line_at.result.1.now c.args.context.now.steps.now
     (Input item.prompt item.destination) c.in-Some-new.ensures in
     c.finish_input.ensures c.args.self.now.store c.args.io.now c.begin.new.self c.begin.ensures.pending
     c.begin.ensures.width
     (subst (λ l. IfSome (slice_get l 0) (λ operation. IsPartTaken g.C.Chooser g.S.Screen g.L.LineSource
     c.line_at.result.1.now c.args.context.now.steps.now operation c.args.self.now.store
-    c.take_at_hand-taken.new.store c.args.io.now c.take_at_hand-taken.new.io c.begin.new.self
-    c.take_at_hand-taken.new.output c.take_at_hand-taken.result)) (sym c.in-Some.ensures.some.1) taken)
+    c.take_at_hand.new.store c.args.io.now c.take_at_hand.new.io c.begin.new.self
+    c.take_at_hand.new.output (Ok false))) (sym c.in-Some.ensures.some.1)
+    (subst (λ r. IsPartTaken g.C.Chooser g.S.Screen g.L.LineSource c.line_at.result.1.now
+    c.args.context.now.steps.now (Input item.prompt item.destination) c.args.self.now.store c.take_at_hand.new.store
+    c.args.io.now c.take_at_hand.new.io c.begin.new.self c.take_at_hand.new.output r) (c.in-Ok-false.is ∙ ap Ok c.in-Ok-false.field-0-test) taken))
+
+pub returns-in-Err : goal.returns-in-Err
+returns-in-Err g c =
+    let item = c.in-Some.item in
+    let taken = c.take_at_hand.ensures c.line_at.result.1.now c.args.context.now.steps.now
+    (Input item.prompt item.destination) c.in-Some-new.ensures in
+    c.finish_input-in-Err.ensures c.args.self.now.store c.args.io.now c.begin.new.self c.begin.ensures.pending
+    c.begin.ensures.width
+    (subst (λ l. IfSome (slice_get l 0) (λ operation. IsPartTaken g.C.Chooser g.S.Screen g.L.LineSource
+    c.line_at.result.1.now c.args.context.now.steps.now operation c.args.self.now.store
+    c.take_at_hand.new.store c.args.io.now c.take_at_hand.new.io c.begin.new.self
+    c.take_at_hand.new.output (Err c.in-Err.stop))) (sym c.in-Some.ensures.some.1)
+    (subst (λ r. IsPartTaken g.C.Chooser g.S.Screen g.L.LineSource c.line_at.result.1.now
+    c.args.context.now.steps.now (Input item.prompt item.destination) c.args.self.now.store c.take_at_hand.new.store
+    c.args.io.now c.take_at_hand.new.io c.begin.new.self c.take_at_hand.new.output r) c.in-Err.is taken))
+
+-- its value was stored
 
 pub returns-in_err-following : goal.returns-in_err-following
 returns-in_err-following g c =
@@ -32,13 +53,13 @@ returns-in_err-following g c =
       operations = c.args.context.now.operations;
       steps = c.args.context.now.steps;
     } in
-    let taken = c.take_at_hand-taken.ensures c.line_at.result.1.now c.args.context.now.steps.now
+    let taken = c.take_at_hand.ensures c.line_at.result.1.now c.args.context.now.steps.now
     (Input item.prompt item.destination) c.in-Some-new.ensures in
-    let done = c.in_err-following.ensures code c.args.self.now.store c.take_at_hand-taken.new.store c.args.io.now
+    let done = c.in_err-following.ensures code c.args.self.now.store c.take_at_hand.new.store c.args.io.now
     (item_taken g.C.Chooser g.S.Screen g.L.LineSource g.met.L.LineSource.gives_none g.met.L.LineSource.gives_more
-    g.met.L.LineSource.falls code item c.in-Some.ensures.some c.args.self.now.store c.take_at_hand-taken.new.store
-    c.args.io.now c.take_at_hand-taken.new.io c.begin.new.self c.take_at_hand-taken.new.output
-    c.take_at_hand-taken.result (c.is_stored.ensures c.if-not-is_stored.false) c.begin.ensures.pending
+    g.met.L.LineSource.falls code item c.in-Some.ensures.some c.args.self.now.store c.take_at_hand.new.store
+    c.args.io.now c.take_at_hand.new.io c.begin.new.self c.take_at_hand.new.output
+    c.take_at_hand.result (c.in-Ok-true.is ∙ ap Ok c.in-Ok-true.field-0-test) c.begin.ensures.pending
     c.begin.ensures.width taken) in
     record {
       given = done.given;
@@ -62,13 +83,13 @@ returns g c =
       operations = c.args.context.now.operations;
       steps = c.args.context.now.steps;
     } in
-    let taken = c.take_at_hand-taken.ensures c.line_at.result.1.now c.args.context.now.steps.now
+    let taken = c.take_at_hand.ensures c.line_at.result.1.now c.args.context.now.steps.now
     (Input item.prompt item.destination) c.in-Some-new.ensures in
-    let done = c.in_ok-following.ensures code c.args.self.now.store c.take_at_hand-taken.new.store c.args.io.now
+    let done = c.in_ok-following.ensures code c.args.self.now.store c.take_at_hand.new.store c.args.io.now
     (item_taken g.C.Chooser g.S.Screen g.L.LineSource g.met.L.LineSource.gives_none g.met.L.LineSource.gives_more
-    g.met.L.LineSource.falls code item c.in-Some.ensures.some c.args.self.now.store c.take_at_hand-taken.new.store
-    c.args.io.now c.take_at_hand-taken.new.io c.begin.new.self c.take_at_hand-taken.new.output
-    c.take_at_hand-taken.result (c.is_stored.ensures c.if-not-is_stored.false) c.begin.ensures.pending
+    g.met.L.LineSource.falls code item c.in-Some.ensures.some c.args.self.now.store c.take_at_hand.new.store
+    c.args.io.now c.take_at_hand.new.io c.begin.new.self c.take_at_hand.new.output
+    c.take_at_hand.result (c.in-Ok-true.is ∙ ap Ok c.in-Ok-true.field-0-test) c.begin.ensures.pending
     c.begin.ensures.width taken) in
     record {
       given = done.given;
@@ -76,7 +97,7 @@ returns g c =
       acts = λ q t word from before count spent begun is.
           shown_done _ q _ _ _ t word from _ c.line_at.ensures.there begun is _
           (record (configuration c.args.self.now count c.show_gathered.new.io.fresh spent) {
-            cells = c.take_at_hand-taken.new.store;
+            cells = c.take_at_hand.new.store;
           })
           _ _ _ (record { place = refl; stack = refl; steps = refl })
           c.from.result refl c.command_laws.ensures c.in_ok-following.following c.from.ensures
