@@ -38,13 +38,14 @@ enum RunLength {
 }
 
 impl RunLength {
-    // The same with one more run, which took `taken` answers.
-    fn with(self, taken: usize) -> RunLength {
-        match self {
-            RunLength::Unknown if taken == 0 => RunLength::Unknown,
-            RunLength::Unknown => RunLength::Same(taken),
-            RunLength::Same(length) if length == taken => RunLength::Same(length),
-            _ => RunLength::Varies,
+    // Notes one more run, which took `taken` answers.
+    #[inline(always)]
+    fn note(&mut self, taken: usize) {
+        match *self {
+            RunLength::Unknown if taken == 0 => {}
+            RunLength::Unknown => *self = RunLength::Same(taken),
+            RunLength::Same(length) if length == taken => {}
+            _ => *self = RunLength::Varies,
         }
     }
 }
@@ -287,7 +288,7 @@ impl Copies {
     ) -> Result<Option<KeptCopy>, AllocError>
         ensures { IfOk result (GoesBackTo most self.old.kept.items self.new.kept.items) }
     {
-        self.length = self.length.with(last);
+        self.length.note(last);
         loop {
             let Some(newest) = self.kept.as_slice().last() else {
                 return Ok(None);
