@@ -4,9 +4,10 @@ ghost use Rattle.std.specs.Prelude.{◌≡◌, ◌≤◌, ◌≤ℤ◌, length, 
 ghost use Rattle.ptb_text.specs.Words.{is_letter};
 
 use crate::tests::shared::{Row, expect_rows, expect_same, table};
+use ptb_explore::Asked;
 use ptb_expr::{
-    Asked, Chooser, Fault, FaultKind, Listed, Operator, Pause, SavedStore, Seeded, ShortValue,
-    Step, Steps, Stop, Store, Target, answer_to, evaluate, evaluate_in, plain_value, read_value,
+    Chooser, Fault, FaultKind, Listed, Operator, Pause, SavedStore, Seeded, ShortValue, Step,
+    Steps, Stop, Store, Target, answer_to, evaluate, evaluate_in, plain_value, read_value,
     single_value, target,
 };
 use ptb_text::{Cursor, Letter};
