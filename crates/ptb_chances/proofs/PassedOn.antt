@@ -1,4 +1,5 @@
--- This file proves what is said where the result of a call is passed on.
+-- This file proves what is known if the result of a call is passed on.
+-- Main lemma: `on_ok`.
 use Rattle.std.proofs.Common.{Result, Ok, Err}
 use Rattle.std.specs.Result.{OnOk}
 

@@ -1,5 +1,5 @@
 -- This file proves how the counts of bytes add up while a reader is read in pieces.
--- Main lemmas: `IsCounted_more` and `IsCounted_read`.
+-- Main lemma: `IsCounted_more`.
 use Rattle.std.proofs.Common.{ℕ, zero, suc, ◌+◌, arith}
 use Rattle.ptb_text.specs.Device.{IsCounted}
 
