@@ -12,8 +12,8 @@ pub use Rattle.ptb_command.proofs.LastOperations.{gosub_done, goto_done, if_cont
 pub use Rattle.ptb_command.proofs.LastOperations.{turn_done, turn_next}
 pub use Rattle.ptb_command.proofs.PartRefinement.{leaves_at, leaves_itself, leaves_then, leaves_to, leaves_under}
 pub use Rattle.ptb_command.proofs.PartRefinement.{refines_part_into}
-pub use Rattle.ptb_command.proofs.PlainCommands.{begins_with, does_plainly, done_ends, drop_here, last_completes}
-pub use Rattle.ptb_command.proofs.PlainCommands.{set_completes, variable_set, variable_valued}
+pub use Rattle.ptb_command.proofs.PlainCommands.{EndsPlainly, begins_with, does_plainly, done_ends, drop_here}
+pub use Rattle.ptb_command.proofs.PlainCommands.{last_completes, set_completes, variable_set, variable_valued}
 pub use Rattle.ptb_command.proofs.ShownPieces.{report_shown, shown_same, shown_then, statement_line, three_same}
 pub use Rattle.ptb_command.proofs.ShownPieces.{three_shown, unshown_first}
 pub use Rattle.ptb_command.proofs.Stops.{asks_before, wants_before}

@@ -2,9 +2,8 @@
 //! the store, the loops and calls that are open, and the place, and it shows, takes and asks.
 //!
 //! It depends on `ptb_code`, which reads commands into code, on `ptb_devices`, `ptb_expr`,
-//! `ptb_answers`, `ptb_text` and `itoa`. The crate above may rely on `Registers::execute` (a command
-//! does by its code what `specs/Act` says, or stops where that does), and on
-//! `Registers::do_several_plainly` (some commands that ask nothing).
+//! `ptb_answers`, `ptb_text` and `itoa`. The crate above may rely on `Registers::execute`: a command
+//! does by its code what `specs/Act` says, or stops where that does.
 #![tactic(auto)]
 
 mod command_io;
