@@ -13,7 +13,7 @@ pub use Rattle.ptb_code.specs.Code.{steps_at, Code}
 pub use Rattle.ptb_command.specs.CommandIo.{SameBorrows}
 pub use Rattle.ptb_command.specs.Devices.{Devices, screen_state, with_screen}
 pub use Rattle.ptb_command.specs.Executed.{code_of}
-pub use Rattle.ptb_command.specs.Execution.{IsQuiet, ContinuesAt}
+pub use Rattle.ptb_command.specs.Execution.{ContinuesAt}
 pub use Rattle.ptb_command.specs.Plain.{DoesPlainly, AreDone}
 pub use Rattle.ptb_command.specs.Reports.{IsShown}
 pub use Rattle.ptb_code.specs.Locations.{PlacesAre, NextIs}
