@@ -148,24 +148,6 @@ impl Store {
         self.values[letter.index()] = value;
     }
 
-    /// The values of all variables.
-    #[inline(always)]
-    pub fn variables(&self) -> [i16; 26]
-        ensures { result ≡ self.now.values }
-    {
-        let Store { values, .. } = self;
-        *values
-    }
-
-    /// Stores the values of all variables.
-    #[inline(always)]
-    pub fn set_variables(&mut self, values: [i16; 26])
-        requires { length values ≡ 26 }
-        ensures { self.new ≡ record self.old { values = values } }
-    {
-        self.values = values;
-    }
-
     /// The index itself, if the array has an element there.
     ///
     /// # Errors

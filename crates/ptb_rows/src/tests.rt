@@ -675,6 +675,7 @@ const RUNS_WITHOUT_INPUT: &[Row<'static>] = rows! {
     (b"10 F.I=1TO3S.2;P.I,;N.I", b"     1     3", 4, steps = 4),
     (b"10 P.RND(2)", b"", 6, asked = Asked::Run(&[])),
     (b"10 P.RND(2)", b"", 7, asked = Asked::Run(&[3])),
+    (b"10 F.A=A+1TO RND(3);P.A,;N.A", b"     1     2", 0, asked = Asked::Run(&[2])),
     (b"10 GOSUB 10", b"SORRY\n10 GOSUB 10?\n", 3, steps = 257),
     (b"10 GOSUB 10", b"", 4, steps = 256),
     (b"10 @(27)=1", b"", 0, memory = 64),

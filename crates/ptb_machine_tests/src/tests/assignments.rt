@@ -20,6 +20,7 @@ const ASSIGNMENTS: &[(&str, Doing, i16, i16)] = &[
     ("10 A=1,B=1/0", fault!(How, 9), 1, 0),
     ("10 A=1,B=1/0,A=2", fault!(How, 9), 1, 0),
     ("10 A=4,@(3)=A,A=1/0", fault!(How, 16), 4, 4),
+    ("10 A=1,B=A+32766+A", fault!(How, 15), 1, 0),
     ("10 A=1,@(3)=A,A=(2", fault!(What, 15), 1, 1),
 ];
 

@@ -120,6 +120,8 @@ const COMMANDS: &[(&str, Doing, &[u8], i16)] = &[
     ("10 LET A=2;P.A", Ok((0, 8)), b"", 2),
     ("10 A=RND(6) ;P.A", Ok((0, 10)), b"", 4),
     ("10 A=RND(6),A=RND(6)", NO_ANSWER, b"", 4),
+    // what is before a value that asks is done once
+    ("10 A=A+1,A=RND(6)+A;P.A", Ok((0, 17)), b"", 6),
     ("10 A=1/0", fault!(How, 5), b"", 1),
     ("10 PRINT A,\"X\";STOP", Ok((0, 12)), b"     1X\n", 1),
     ("10 PRINT A,", Ok((0, 8)), b"     1", 1),

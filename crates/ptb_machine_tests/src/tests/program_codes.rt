@@ -112,12 +112,11 @@ const RUNS: &[Row] = table! {
     (&["10 A=7;A=A/0"], 9, 1, (0, 4), 7),
     (&["10 A=7;A=RND(1)"], 9, 1, (0, 4), 7),
     (&["10 A=7;INPUT A"], 9, 1, (0, 4), 7),
-    // a command that has a fault after its first part isn't started
-    (&["10 A=7", "20 A=8,B=A/0"], 9, 1, (0, 3), 7),
-    (&["10 A=7", "20 F.A=8TO A/0"], 9, 1, (0, 3), 7),
+    // or sets several variables, or is a FOR
+    (&["10 A=7", "20 A=8,B=A"], 9, 1, (0, 3), 7),
+    (&["10 A=7", "20 F.A=8TO A"], 9, 1, (0, 3), 7),
     // up to the end of the program
     (&["10 A=7", "20 A=8"], 9, 2, (1, 3), 8),
-    (&["10 FOR I=1 TO 3", "20 A=A+I", "30 NEXT I", "40 STOP"], 99, 7, (2, 6), 6),
     (&["10 GOSUB 100;A=A+1", "20 STOP", "100 A=5;RETURN"], 9, 4, (0, 15), 6),
     (&["10 A=A+1;IF A<3 GOTO 10", "20 A=-A;STOP"], 99, 9, (1, 5), -3),
 };
