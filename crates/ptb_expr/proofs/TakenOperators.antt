@@ -145,6 +145,19 @@ no_letter_no_function t i b r s e none = go (is_letter b) refl (subst IsNone e n
   go false h absent = no_function t i b s (λ d. false≢true (sym h ∙ ap is_letter d))
       (λ d. false≢true (sym h ∙ ap is_letter d)) (λ d. false≢true (sym h ∙ ap is_letter d))
 
+pub no_letter_here : FindingLaws → (t : List ℕ) (i : ℕ) → letter_at t i ≡ None → word_at Functions t i ≡ None
+no_letter_here laws t i none = go (next_byte_at t i) (laws.next t i) where
+  without : (b j : ℕ) (x : Bool) → if◌then◌else◌ {A = Option (ℕ × ℕ)} x (Some (b, j)) None ≡ None
+      → IsNone (if◌then◌else◌ {A = Option ℕ} x (Some b) None)
+  without b j true e = absurd cc
+  without b j false e = refl
+
+  go : (next : Option ℕ) → StandsNext t i next → word_at Functions t i ≡ None
+  go None s = no_function_end t i s
+  go (Some b) s =
+      no_letter_no_function t i b (if is_letter b then Some b else None) s refl
+      (without b (past_byte t i) (is_letter b) (sym s.letter ∙ none))
+
 -- ---- numbers
 
 -- where a number is, nothing else is

@@ -40,10 +40,10 @@ pub(crate) fn after_rare_blanks(text: &[u8], place: usize) -> (usize, u8)
     if byte != b' ' {
         return (place, byte);
     }
-    after_blanks_apart(text, place)
+    after_blanks_apart(text, place + 1)
 }
 
-// As `after_blanks`. Not inlined.
+// As `after_more_blanks`. Not inlined.
 #[inline(never)]
 fn after_blanks_apart(text: &[u8], place: usize) -> (usize, u8)
     requires { place ≤ length text.now }
@@ -52,12 +52,12 @@ fn after_blanks_apart(text: &[u8], place: usize) -> (usize, u8)
     ensures within { result.0 ≤ length text.now }
     ensures byte { result.1 ≡ get_or text.now result.0 0 }
 {
-    after_blanks(text, place)
+    after_more_blanks(text, place)
 }
 
-// The byte at `place`: 0 at the end of the text.
+/// The byte at `place`: 0 at the end of the text.
 #[inline(always)]
-fn byte_at(text: &[u8], place: usize) -> u8
+pub(crate) fn byte_at(text: &[u8], place: usize) -> u8
     requires { place ≤ length text.now }
     ensures { result ≡ get_or text.now place 0 }
 {
@@ -67,10 +67,10 @@ fn byte_at(text: &[u8], place: usize) -> u8
     text[place]
 }
 
-// The same as `after_blanks`, after a blank.
+/// The same as `after_blanks`, after a blank.
 #[inline(always)]
 #[tactic(auto, using(crate::proofs::Blanks::past_blanks_more, crate::proofs::Blanks::past_blanks_stop, crate::proofs::Blanks::past_blanks_end))]
-fn after_more_blanks(text: &[u8], place: usize) -> (usize, u8)
+pub(crate) fn after_more_blanks(text: &[u8], place: usize) -> (usize, u8)
     requires { place ≤ length text.now }
     ensures value { result.0 ≡ past_blanks text.now place }
     ensures from { place ≤ result.0 }

@@ -22,8 +22,11 @@ fn finds(cursor: &mut Cursor<'_>, find: &Find) -> bool {
         Find::Word(table, word) => cursor.word(table) == word,
         Find::Token(byte, found) => cursor.token(byte) == found,
         Find::AtLeast(found) => cursor.pair(b'>', b'=') == found,
-        Find::Letter(Some(byte)) => cursor.letter() == Letter::new(byte),
-        Find::Letter(None) => cursor.letter().is_none(),
+        Find::Letter(Some(byte)) => {
+            let letter = Letter::new(byte);
+            cursor.next_letter() == letter && cursor.letter() == letter
+        }
+        Find::Letter(None) => cursor.next_letter().is_none() && cursor.letter().is_none(),
         Find::Quoted(quoted) => cursor.quoted() == quoted,
     }
 }
