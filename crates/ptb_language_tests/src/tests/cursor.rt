@@ -219,6 +219,20 @@ fn is_taken() -> bool {
     cursor.next_byte().is_none() && cursor.place() == 4 && cursor.at_end()
 }
 
+// Whether bytes are taken with the blanks after them where these are expected, as without.
+fn are_spaced_taken() -> bool {
+    let mut cursor = Cursor::new(SPACED, 0);
+    if cursor.next_byte() != Some(b'A') {
+        return false;
+    }
+    cursor.take_spaced_byte();
+    if cursor.place() != 3 || cursor.next_byte() != Some(b'B') {
+        return false;
+    }
+    cursor.take_spaced_byte();
+    cursor.place() == 4 && cursor.at_end()
+}
+
 #[test]
 fn finds_what_is_there(rt: HostRuntime) {
     expect_rows(&rt, "words", &(), WORDS);
@@ -237,4 +251,5 @@ fn finds_what_is_there(rt: HostRuntime) {
     );
     expect_same(&rt, "long blanks", are_long_blanks_passed(), true);
     expect_same(&rt, "a byte is taken", is_taken(), true);
+    expect_same(&rt, "spaced bytes are taken", are_spaced_taken(), true);
 }
