@@ -1,5 +1,5 @@
 -- This file proves what a cursor takes: its text is x, and n is the next place without a blank.
--- Main lemmas: `letter_taken`, `number_value` and `word_taken`.
+-- Main lemmas: `letter_ahead`, `number_value` and `word_taken`.
 use Rattle.std.proofs.Common.{◌≡◌, ℕ, ◌+◌, ◌-◌, ◌<◌, ◌≤◌, ◌∙◌, true, false, cond, List, [], ◌∷◌, length, get_or}
 use Rattle.std.proofs.Common.{slice_get, zero, suc}
 use Rattle.std.proofs.Common.{take, drop, min, Some, None, refl, sym, ap, arith, ℤ, pos}
@@ -11,7 +11,6 @@ use Rattle.std.proofs.lemmas.Bool.{ne_eqb, le-leb, lt-leb, cases_lt, false≢tru
 use Rattle.std.proofs.lemmas.Int.{ints, to_z-of_z}
 use Rattle.std.proofs.lemmas.List.{take_rest}
 use Rattle.std.proofs.lemmas.List.Sums.{prefix_len-le-length}
-use Rattle.std.proofs.lemmas.Option.{cond_some}
 use Rattle.ptb_text.specs.declared.numerals.TheConstants.{TOO_BIG}
 use Rattle.ptb_text.specs.declared.word.Table.{Table}
 use Rattle.ptb_text.specs.declared.word.Word.{Word}
@@ -190,12 +189,6 @@ next_none t x i n same at end =
     stands_next t i None (ap (slice_get t) (sym at) ∙ slice_get_past t n (omega (arith, end, ap length same)))
 
 -- ---- a letter
-
-pub letter_taken : (t : List ℕ) (i b l p : ℕ) → letter_at t i ≡ letter_there t (past_blanks t i) (Some b)
-    → Some l ≡ cond (is_letter b) (Some b) None → p ≡ past_byte t i → letter_at t i ≡ Some (l, p)
-letter_taken t i b l p e found place =
-    let h = cond_some (is_letter b) b l (sym found) in
-    e ∙ rw (h.0, place, h.1) refl
 
 -- what the next byte says of it: b is that byte, or 0
 pub letter_ahead : (t x : List ℕ) (i n b : ℕ) (r : Option ℕ) → x ≡ t → n ≡ past_blanks t i → b ≡ get_or x n 0

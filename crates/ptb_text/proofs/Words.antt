@@ -325,7 +325,7 @@ first_word_none ((k, c ∷ d ∷ cs) ∷ ws) t i h f =
     rw (spelling_none c d cs (drop i t) letters.1 (f c d cs letters.0)) (first_word_none ws t i parts.1 f)
 
 -- no word is one byte
-word_at_last : (table : Table) (t : List ℕ) (i : ℕ) → length t ≤ past_blanks t i + 1 → word_at table t i ≡ None
+pub word_at_last : (table : Table) (t : List ℕ) (i : ℕ) → length t ≤ past_blanks t i + 1 → word_at table t i ≡ None
 unfolding word_at
 word_at_last table t i h = elim (cases_lt (past_blanks t i) (length t)) [
   | inl first ↦
@@ -338,7 +338,7 @@ word_at_last table t i h = elim (cases_lt (past_blanks t i) (length t)) [
 ]
 
 -- no word has another second byte
-word_at_other : (table : Table) (t : List ℕ) (i b : ℕ) → past_blanks t i + 1 < length t
+pub word_at_other : (table : Table) (t : List ℕ) (i b : ℕ) → past_blanks t i + 1 < length t
     → get_or t (past_blanks t i + 1) 0 ≡ b → continues b ≡ false → word_at table t i ≡ None
 unfolding word_at
 word_at_other table t i b h e n =
@@ -351,11 +351,3 @@ word_at_other table t i b h e n =
     ap (spelt false (c ∷ d ∷ cs) 0) rest
     ∙ spelt_other c d cs _ b _ (λ q. false≢true (sym parts.0 ∙ ap (nat_le 65) q ∙ low)) (eqb-false b 46 parts.1)
     )
-
--- no word is at a place after whose first byte there is none that continues one: b is that byte, or 0 at the end
-pub word_at_without : (table : Table) (t : List ℕ) (i b : ℕ) → get_or t (past_blanks t i + 1) 0 ≡ b
-    → continues b ≡ false → word_at table t i ≡ None
-word_at_without table t i b e n = elim (cases_lt (past_blanks t i + 1) (length t)) [
-  | inl h ↦ word_at_other table t i b h e n
-  | inr h ↦ word_at_last table t i h
-]

@@ -7,7 +7,7 @@ ghost use Rattle.ptb_text.specs.Prelude.{is_over, token_at, pair_at, letter_at, 
 ghost use Rattle.ptb_text.specs.Prelude.{quotation_of, is_text, IsPieceFrom, word_at, IsWordOf};
 
 use crate::letter::Letter;
-use crate::numerals::{after_blanks, after_more_blanks, after_rare_blanks, byte_at, digits_at};
+use crate::numerals::{after_blanks, after_rare_blanks, digits_at};
 use crate::spelling::{continues_word, found_word};
 use crate::word::{Number, Quoted, Table, Word};
 use std::marker::Model;
@@ -123,7 +123,7 @@ impl<'a> Cursor<'a> {
 
     // The same, where this byte is at `end`: 0 at the end of the text.
     #[inline(always)]
-    #[tactic(auto, using(crate::proofs::Blanks::past_blanks_more, crate::proofs::Blanks::past_blanks_none, crate::proofs::Blanks::past_blanks_twice))]
+    #[tactic(auto, using(crate::proofs::Blanks::past_blanks_none, crate::proofs::Blanks::past_blanks_twice))]
     fn pass_from(&mut self, end: usize, byte: u8)
         requires within { end ≤ length self.old.text }
         requires byte { byte ≡ get_or self.old.text end 0 }
@@ -132,10 +132,8 @@ impl<'a> Cursor<'a> {
         ensures from { end ≤ self.new.place }
     {
         if byte == b' ' {
-            let (place, byte) = after_more_blanks(self.text, end + 1);
-            self.place = place;
-            self.next = place;
-            self.byte = byte;
+            *self = Cursor::new(self.text, end);
+            self.place = self.next;
             return;
         }
         self.place = end;
@@ -284,8 +282,7 @@ impl<'a> Cursor<'a> {
         ensures left { bytes_left self.new ≤ bytes_left self.old }
         ensures absent { IsNone result → self.new.place ≡ self.old.place }
     {
-        self.next_byte()?;
-        if !continues_word(byte_at(self.text, self.next + 1)) {
+        if self.next + 1 >= self.text.len() || !continues_word(self.text[self.next + 1]) {
             return None;
         }
         let found = found_word(self.text, self.next, table)?;

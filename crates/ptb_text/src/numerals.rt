@@ -55,9 +55,9 @@ fn after_blanks_apart(text: &[u8], place: usize) -> (usize, u8)
     after_more_blanks(text, place)
 }
 
-/// The byte at `place`: 0 at the end of the text.
+// The byte at `place`: 0 at the end of the text.
 #[inline(always)]
-pub(crate) fn byte_at(text: &[u8], place: usize) -> u8
+fn byte_at(text: &[u8], place: usize) -> u8
     requires { place ≤ length text.now }
     ensures { result ≡ get_or text.now place 0 }
 {
@@ -67,10 +67,10 @@ pub(crate) fn byte_at(text: &[u8], place: usize) -> u8
     text[place]
 }
 
-/// The same as `after_blanks`, after a blank.
+// The same as `after_blanks`, after a blank.
 #[inline(always)]
 #[tactic(auto, using(crate::proofs::Blanks::past_blanks_more, crate::proofs::Blanks::past_blanks_stop, crate::proofs::Blanks::past_blanks_end))]
-pub(crate) fn after_more_blanks(text: &[u8], place: usize) -> (usize, u8)
+fn after_more_blanks(text: &[u8], place: usize) -> (usize, u8)
     requires { place ≤ length text.now }
     ensures value { result.0 ≡ past_blanks text.now place }
     ensures from { place ≤ result.0 }
@@ -111,25 +111,25 @@ pub(crate) fn digits_at(text: &[u8], place: usize, first: u8) -> (u32, usize, u8
         }
         value = value * 10 + u32::from(byte - b'0');
         if value >= TOO_BIG {
-            return digits_again(text, place);
+            let (end, byte) = after_digits(text, place);
+            return (TOO_BIG, end, byte);
         }
         end += 1;
     }
     (value, end, 0)
 }
 
-// The same for a number that is too big.
+// Where the digits at `place` end, and the byte there: 0 at the end of the text. Not inlined, since it is for
+// numbers that are too big.
 #[inline(never)]
-fn digits_again(text: &[u8], place: usize) -> (u32, usize, u8)
+fn after_digits(text: &[u8], place: usize) -> (usize, u8)
     requires { place ≤ length text.now }
-    ensures value { result.0
-        ≡ min (digits_value (take (result.1 - place) (drop place text.now))) TOO_BIG }
-    ensures end { result.1 ≡ place + prefix_len is_digit (drop place text.now) }
-    ensures byte { result.2 ≡ get_or text.now result.1 0 }
+    ensures end { result.0 ≡ place + prefix_len is_digit (drop place text.now) }
+    ensures byte { result.1 ≡ get_or text.now result.0 0 }
 {
-    let (value, count) = leading_digits(&text[place..]);
+    let (_, count) = leading_digits(&text[place..]);
     let end = place + count;
-    (value, end, byte_at(text, end))
+    (end, byte_at(text, end))
 }
 
 // What the digits in front of a text write, and how many they are.

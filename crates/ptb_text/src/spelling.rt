@@ -8,7 +8,7 @@ ghost use Rattle.ptb_text.specs.Words.{spelling_in_front, words, IsCommand, IsFu
 
 use crate::word::{Table, Word};
 
-// What looks for a word is inlined in one function, `table_word_at`: a result that a call passes in memory
+// What looks for a word is inlined in one function, `found_word`: a result that a call passes in memory
 // is read back late.
 
 // what follows a word that is cut
@@ -102,6 +102,21 @@ fn function_at(text: &[u8], place: usize) -> Option<(Word, usize)>
     }
 }
 
+// The first word of the table that is at `place`, and the place after it.
+#[inline(always)]
+fn table_word_at(text: &[u8], place: usize, table: Table) -> Option<(Word, usize)>
+    requires { place < length text.now }
+    ensures value { FindsWord (words table) text.now place result }
+    ensures word { IfSome result (λ found. IsWordOf table found.0) }
+{
+    match table {
+        Table::Commands => command_at(text, place),
+        Table::Functions => function_at(text, place),
+        Table::To => spelled_word(text, place, Word::ToKw, b"TO"),
+        Table::Step => spelled_word(text, place, Word::StepKw, b"STEP"),
+    }
+}
+
 /// A word that was found in a text of at most 255 bytes.
 // It takes 2 bytes, so that no call passes it in memory.
 #[derive(Clone, Copy)]
@@ -126,20 +141,4 @@ pub(crate) fn found_word(text: &[u8], place: usize, table: Table) -> Option<Foun
         word,
         end: end as u8,
     })
-}
-
-// The first word of the table that is at `place`, and the place after it. Not inlined, so that what takes
-// words stays small; a byte that continues a word was seen before.
-#[inline(never)]
-pub fn table_word_at(text: &[u8], place: usize, table: Table) -> Option<(Word, usize)>
-    requires { place < length text.now }
-    ensures value { FindsWord (words table) text.now place result }
-    ensures word { IfSome result (λ found. IsWordOf table found.0) }
-{
-    match table {
-        Table::Commands => command_at(text, place),
-        Table::Functions => function_at(text, place),
-        Table::To => spelled_word(text, place, Word::ToKw, b"TO"),
-        Table::Step => spelled_word(text, place, Word::StepKw, b"STEP"),
-    }
 }
