@@ -1,11 +1,10 @@
 -- This file proves what a loop over digits keeps.
 -- Main lemma: `digits_more`.
 use Rattle.std.proofs.Common.{◌≡◌, ◌∙◌, ℕ, ◌+◌, ◌-◌, ◌*◌, ◌<◌, ◌≤◌, false, List, length, take, drop, get_or, arith}
-use Rattle.std.proofs.Common.{ap, length-drop, get_or-drop, take_all, zero, suc, min, inl, inr}
+use Rattle.std.proofs.Common.{ap, length-drop, get_or-drop}
 use Rattle.std.proofs.lemmas.List.{drop_more}
 use Rattle.std.specs.List.{prefix_len}
 use Rattle.std.proofs.lemmas.List.Sums.{prefix_len-drop_yes, prefix_len-drop_no, prefix_len-drop_all, fold_more}
-use Rattle.std.proofs.lemmas.Bool.{cases_lt}
 use Rattle.std.proofs.lemmas.Bool.Decides.{nat_tests}
 use Rattle.ptb_text.specs.Digits.{is_digit, digits_value}
 
@@ -39,21 +38,3 @@ digits_value_next s i e h inside =
     let there = digits_value_more (drop i s) (e - i) (omega (arith, length-drop i s)) in
     rw more (there ∙ ap (λ b. digits_value (take (e - i) (drop i s)) * 10 + (b - 48))
     (get_or-drop i s (e - i) 0 ∙ ap (λ (k : ℕ). get_or s k 0) place))
-
--- more digits write no less
-digits_value_grows : (s : List ℕ) (i j : ℕ) → digits_value (take i s) ≤ digits_value (take (i + j) s)
-digits_value_grows s i zero = let same : i + 0 ≡ i = omega arith in rw same (omega arith)
-digits_value_grows s i (suc j) =
-    let same : i + suc j ≡ i + j + 1 = omega arith in
-    rw same (elim (cases_lt (i + j) (length s)) [
-      | inl h ↦ omega (arith, digits_value_more s (i + j) h, digits_value_grows s i j)
-      | inr h ↦
-          rw (take_all (i + j + 1) s (omega (arith, h)))
-          (rw (take_all (i + j) s h) at (digits_value_grows s i j))
-    ])
-
--- where some of the digits are too big, all are
-pub digits_value_least : (s : List ℕ) (n k v : ℕ) → n ≤ k → v ≤ digits_value (take n s) → v ≡ min (digits_value (take k s)) v
-digits_value_least s n k v h big =
-    let same : k ≡ n + (k - n) = omega arith in
-    rw same (omega (arith, big, digits_value_grows s n (k - n)))

@@ -111,25 +111,25 @@ pub(crate) fn digits_at(text: &[u8], place: usize, first: u8) -> (u32, usize, u8
         }
         value = value * 10 + u32::from(byte - b'0');
         if value >= TOO_BIG {
-            let (end, byte) = after_digits(text, place);
-            return (TOO_BIG, end, byte);
+            return digits_again(text, place);
         }
         end += 1;
     }
     (value, end, 0)
 }
 
-// Where the digits at `place` end, and the byte there: 0 at the end of the text. Not inlined, since it is for
-// numbers that are too big.
+// The same for a number that is too big.
 #[inline(never)]
-fn after_digits(text: &[u8], place: usize) -> (usize, u8)
+fn digits_again(text: &[u8], place: usize) -> (u32, usize, u8)
     requires { place ≤ length text.now }
-    ensures end { result.0 ≡ place + prefix_len is_digit (drop place text.now) }
-    ensures byte { result.1 ≡ get_or text.now result.0 0 }
+    ensures value { result.0
+        ≡ min (digits_value (take (result.1 - place) (drop place text.now))) TOO_BIG }
+    ensures end { result.1 ≡ place + prefix_len is_digit (drop place text.now) }
+    ensures byte { result.2 ≡ get_or text.now result.1 0 }
 {
-    let (_, count) = leading_digits(&text[place..]);
+    let (value, count) = leading_digits(&text[place..]);
     let end = place + count;
-    (end, byte_at(text, end))
+    (value, end, byte_at(text, end))
 }
 
 // What the digits in front of a text write, and how many they are.
