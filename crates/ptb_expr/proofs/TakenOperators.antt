@@ -124,19 +124,8 @@ no_function t i b s r a z = s.word Functions (rw (ne_eqb b 82 r, ne_eqb b 65 a, 
 
 -- ---- letters
 
-pub no_letter_end : (t : List ℕ) (i : ℕ) → StandsNext t i None → letter_at t i ≡ None
-no_letter_end t i s = s.letter
-
-pub letter_next : (t : List ℕ) (i b : ℕ) (r : Option ℕ) → StandsNext t i (Some b)
-    → r ≡ (if is_letter b then Some b else None) → letter_at t i ≡ option_map (λ c. (c, past_byte t i)) r
-letter_next t i b r s e = s.letter ∙ go (is_letter b) ∙ ap (option_map (λ c. (c, past_byte t i))) (sym e) where
-  go : (x : Bool) → if◌then◌else◌ {A = Option (ℕ × ℕ)} x (Some (b, past_byte t i)) None
-      ≡ option_map (λ (c : ℕ). (c, past_byte t i)) (if◌then◌else◌ {A = Option ℕ} x (Some b) None)
-  go true = refl
-  go false = refl
-
 -- no function begins without a letter
-pub no_letter_no_function : (t : List ℕ) (i b : ℕ) (r : Option ℕ) → StandsNext t i (Some b)
+no_letter_no_function : (t : List ℕ) (i b : ℕ) (r : Option ℕ) → StandsNext t i (Some b)
     → r ≡ (if is_letter b then Some b else None) → IsNone r → word_at Functions t i ≡ None
 no_letter_no_function t i b r s e none = go (is_letter b) refl (subst IsNone e none) where
   go : (x : Bool) → is_letter b ≡ x → IsNone (if◌then◌else◌ {A = Option ℕ} x (Some b) None)
