@@ -124,19 +124,8 @@ no_function t i b s r a z = s.word Functions (rw (ne_eqb b 82 r, ne_eqb b 65 a, 
 
 -- ---- letters
 
-pub no_letter_end : (t : List ℕ) (i : ℕ) → StandsNext t i None → letter_at t i ≡ None
-no_letter_end t i s = s.letter
-
-pub letter_next : (t : List ℕ) (i b : ℕ) (r : Option ℕ) → StandsNext t i (Some b)
-    → r ≡ (if is_letter b then Some b else None) → letter_at t i ≡ option_map (λ c. (c, past_byte t i)) r
-letter_next t i b r s e = s.letter ∙ go (is_letter b) ∙ ap (option_map (λ c. (c, past_byte t i))) (sym e) where
-  go : (x : Bool) → if◌then◌else◌ {A = Option (ℕ × ℕ)} x (Some (b, past_byte t i)) None
-      ≡ option_map (λ (c : ℕ). (c, past_byte t i)) (if◌then◌else◌ {A = Option ℕ} x (Some b) None)
-  go true = refl
-  go false = refl
-
 -- no function begins without a letter
-pub no_letter_no_function : (t : List ℕ) (i b : ℕ) (r : Option ℕ) → StandsNext t i (Some b)
+no_letter_no_function : (t : List ℕ) (i b : ℕ) (r : Option ℕ) → StandsNext t i (Some b)
     → r ≡ (if is_letter b then Some b else None) → IsNone r → word_at Functions t i ≡ None
 no_letter_no_function t i b r s e none = go (is_letter b) refl (subst IsNone e none) where
   go : (x : Bool) → is_letter b ≡ x → IsNone (if◌then◌else◌ {A = Option ℕ} x (Some b) None)
@@ -144,6 +133,19 @@ no_letter_no_function t i b r s e none = go (is_letter b) refl (subst IsNone e n
   go true h absent = absurd (cc absent)
   go false h absent = no_function t i b s (λ d. false≢true (sym h ∙ ap is_letter d))
       (λ d. false≢true (sym h ∙ ap is_letter d)) (λ d. false≢true (sym h ∙ ap is_letter d))
+
+pub no_letter_here : FindingLaws → (t : List ℕ) (i : ℕ) → letter_at t i ≡ None → word_at Functions t i ≡ None
+no_letter_here laws t i none = go (next_byte_at t i) (laws.next t i) where
+  without : (b j : ℕ) (x : Bool) → if◌then◌else◌ {A = Option (ℕ × ℕ)} x (Some (b, j)) None ≡ None
+      → IsNone (if◌then◌else◌ {A = Option ℕ} x (Some b) None)
+  without b j true e = absurd cc
+  without b j false e = refl
+
+  go : (next : Option ℕ) → StandsNext t i next → word_at Functions t i ≡ None
+  go None s = no_function_end t i s
+  go (Some b) s =
+      no_letter_no_function t i b (if is_letter b then Some b else None) s refl
+      (without b (past_byte t i) (is_letter b) (sym s.letter ∙ none))
 
 -- ---- numbers
 

@@ -1,17 +1,16 @@
 -- This file proves what a cursor takes: its text is x, and n is the next place without a blank.
--- Main lemmas: `letter_taken`, `number_value` and `word_taken`.
+-- Main lemmas: `letter_ahead`, `number_value` and `word_taken`.
 use Rattle.std.proofs.Common.{◌≡◌, ℕ, ◌+◌, ◌-◌, ◌<◌, ◌≤◌, ◌∙◌, true, false, cond, List, [], ◌∷◌, length, get_or}
 use Rattle.std.proofs.Common.{slice_get, zero, suc}
 use Rattle.std.proofs.Common.{take, drop, min, Some, None, refl, sym, ap, arith, ℤ, pos}
 use Rattle.std.proofs.Common.{length-take-le, length-drop, to_z, of_z, w16, SFits, inl}
-use Rattle.std.proofs.Common.{inr}
-use Rattle.std.specs.Prelude.{◌==◌, position}
+use Rattle.std.proofs.Common.{inr, Option, Bool, subst}
+use Rattle.std.specs.Prelude.{◌==◌, position, option_map, IsSome}
 use Rattle.std.specs.List.{prefix_len, slice_range}
-use Rattle.std.proofs.lemmas.Bool.{ne_eqb, le-leb, lt-leb, cases_lt}
+use Rattle.std.proofs.lemmas.Bool.{ne_eqb, le-leb, lt-leb, cases_lt, false≢true}
 use Rattle.std.proofs.lemmas.Int.{ints, to_z-of_z}
 use Rattle.std.proofs.lemmas.List.{take_rest}
 use Rattle.std.proofs.lemmas.List.Sums.{prefix_len-le-length}
-use Rattle.std.proofs.lemmas.Option.{cond_some}
 use Rattle.ptb_text.specs.declared.numerals.TheConstants.{TOO_BIG}
 use Rattle.ptb_text.specs.declared.word.Table.{Table}
 use Rattle.ptb_text.specs.declared.word.Word.{Word}
@@ -191,11 +190,31 @@ next_none t x i n same at end =
 
 -- ---- a letter
 
-pub letter_taken : (t : List ℕ) (i b l p : ℕ) → letter_at t i ≡ letter_there t (past_blanks t i) (Some b)
-    → Some l ≡ cond (is_letter b) (Some b) None → p ≡ past_byte t i → letter_at t i ≡ Some (l, p)
-letter_taken t i b l p e found place =
-    let h = cond_some (is_letter b) b l (sym found) in
-    e ∙ rw (h.0, place, h.1) refl
+-- what the next byte says of it: b is that byte, or 0
+pub letter_ahead : (t x : List ℕ) (i n b : ℕ) (r : Option ℕ) → x ≡ t → n ≡ past_blanks t i → b ≡ get_or x n 0
+    → n ≤ length x → r ≡ cond (is_letter b) (Some b) None
+    → letter_at t i ≡ option_map (λ c. (c, past_byte t i)) r
+letter_ahead t x i n b r same at byte low is = elim (cases_lt n (length x)) [
+  | inl h ↦
+      (next_within t x i n b same at byte low (λ e. omega (arith, h, e))).letter ∙ go (is_letter b)
+      ∙ ap (option_map (λ c. (c, past_byte t i))) (sym is)
+  | inr h ↦
+      let zero : b ≡ 0 = byte ∙ past_end x n h in
+      (next_none t x i n same at (omega (arith, h, low))).letter
+      ∙ ap (option_map (λ c. (c, past_byte t i))) (sym (is ∙ ap (λ d. cond (is_letter d) (Some d) None) zero))
+] where
+  go : (y : Bool) → cond {A = Option (ℕ × ℕ)} y (Some (b, past_byte t i)) None
+      ≡ option_map (λ (c : ℕ). (c, past_byte t i)) (cond {A = Option ℕ} y (Some b) None)
+  go true = refl
+  go false = refl
+
+pub letter_is_there : (t x : List ℕ) (i n b : ℕ) (r : Option ℕ) → x ≡ t → n ≡ past_blanks t i → b ≡ get_or x n 0
+    → r ≡ cond (is_letter b) (Some b) None → IsSome r → IsSome (next_byte_at t i)
+letter_is_there t x i n b r same at byte is some =
+    let not_zero : b ≡ 0 → ⊥ = λ e.
+    let none : r ≡ None = is ∙ ap (λ (d : ℕ). cond {A = Option ℕ} (is_letter d) (Some d) None) e in
+    false≢true (subst (λ (o : Option ℕ). IsSome o) none some) in
+    subst (λ (o : Option ℕ). IsSome o) (sym (next_there t x i n b same at byte not_zero).byte) refl
 
 -- ---- a word
 

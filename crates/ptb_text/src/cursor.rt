@@ -8,7 +8,7 @@ ghost use Rattle.ptb_text.specs.Prelude.{quotation_of, is_text, IsPieceFrom, wor
 
 use crate::letter::Letter;
 use crate::numerals::{after_blanks, after_rare_blanks, digits_at};
-use crate::spelling::{continues_word, table_word_at};
+use crate::spelling::{continues_word, found_word};
 use crate::word::{Number, Quoted, Table, Word};
 use std::marker::Model;
 
@@ -168,6 +168,21 @@ impl<'a> Cursor<'a> {
         self.pass_to(self.next + 1);
     }
 
+    /// The same, faster where a blank follows.
+    #[inline(always)]
+    #[tactic(auto, using(crate::proofs::Blanks::past_blanks_twice))]
+    pub fn take_spaced_byte(&mut self)
+        requires { IsSome (next_byte_at self.old.text self.old.place) }
+        ensures place { self.new.place ≡ past_byte self.old.text self.old.place }
+        ensures text { self.new.text ≡ self.old.text }
+        ensures taken { bytes_left self.new < bytes_left self.old }
+    {
+        let (place, byte) = after_blanks(self.text, self.next + 1);
+        self.place = place;
+        self.next = place;
+        self.byte = byte;
+    }
+
     /// Takes this byte, if it is next.
     #[inline(always)]
     pub fn token(&mut self, byte: u8) -> bool
@@ -209,6 +224,16 @@ impl<'a> Cursor<'a> {
         }
     }
 
+    /// The letter A to Z that is next, if one is. Nothing is taken.
+    #[inline(always)]
+    pub fn next_letter(&self) -> Option<Letter>
+        ensures value { letter_at self.now.text self.now.place
+            ≡ option_map (λ b. (b, past_byte self.now.text self.now.place)) result }
+        ensures there { IsSome result → IsSome (next_byte_at self.now.text self.now.place) }
+    {
+        Letter::new(self.byte)
+    }
+
     /// Takes a letter A to Z, if one is next.
     #[inline(always)]
     pub fn letter(&mut self) -> Option<Letter>
@@ -219,8 +244,7 @@ impl<'a> Cursor<'a> {
         ensures left { bytes_left self.new ≤ bytes_left self.old }
         ensures absent { IsNone result → self.new.place ≡ self.old.place }
     {
-        let byte = self.next_byte()?;
-        let letter = Letter::new(byte)?;
+        let letter = self.next_letter()?;
         self.take_byte();
         Some(letter)
     }
@@ -261,9 +285,9 @@ impl<'a> Cursor<'a> {
         if self.next + 1 >= self.text.len() || !continues_word(self.text[self.next + 1]) {
             return None;
         }
-        let (word, end) = table_word_at(self.text, self.next, table)?;
-        self.pass_to(end);
-        Some(word)
+        let found = found_word(self.text, self.next, table)?;
+        self.pass_to(usize::from(found.end));
+        Some(found.word)
     }
 
     /// Takes a string with its quotes, which are alike: `'` or `"`.

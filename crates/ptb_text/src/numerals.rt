@@ -40,10 +40,10 @@ pub(crate) fn after_rare_blanks(text: &[u8], place: usize) -> (usize, u8)
     if byte != b' ' {
         return (place, byte);
     }
-    after_blanks_apart(text, place)
+    after_blanks_apart(text, place + 1)
 }
 
-// As `after_blanks`. Not inlined.
+// As `after_more_blanks`. Not inlined.
 #[inline(never)]
 fn after_blanks_apart(text: &[u8], place: usize) -> (usize, u8)
     requires { place ≤ length text.now }
@@ -52,7 +52,7 @@ fn after_blanks_apart(text: &[u8], place: usize) -> (usize, u8)
     ensures within { result.0 ≤ length text.now }
     ensures byte { result.1 ≡ get_or text.now result.0 0 }
 {
-    after_blanks(text, place)
+    after_more_blanks(text, place)
 }
 
 // The byte at `place`: 0 at the end of the text.

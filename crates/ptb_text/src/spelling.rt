@@ -8,7 +8,7 @@ ghost use Rattle.ptb_text.specs.Words.{spelling_in_front, words, IsCommand, IsFu
 
 use crate::word::{Table, Word};
 
-// What looks for a word is inlined in one function, `table_word_at`: a result that a call passes in memory
+// What looks for a word is inlined in one function, `found_word`: a result that a call passes in memory
 // is read back late.
 
 // what follows a word that is cut
@@ -102,10 +102,9 @@ fn function_at(text: &[u8], place: usize) -> Option<(Word, usize)>
     }
 }
 
-// The first word of the table that is at `place`, and the place after it. Not inlined, so that what takes
-// words stays small; a byte that continues a word was seen before.
-#[inline(never)]
-pub fn table_word_at(text: &[u8], place: usize, table: Table) -> Option<(Word, usize)>
+// The first word of the table that is at `place`, and the place after it.
+#[inline(always)]
+fn table_word_at(text: &[u8], place: usize, table: Table) -> Option<(Word, usize)>
     requires { place < length text.now }
     ensures value { FindsWord (words table) text.now place result }
     ensures word { IfSome result (λ found. IsWordOf table found.0) }
@@ -116,4 +115,30 @@ pub fn table_word_at(text: &[u8], place: usize, table: Table) -> Option<(Word, u
         Table::To => spelled_word(text, place, Word::ToKw, b"TO"),
         Table::Step => spelled_word(text, place, Word::StepKw, b"STEP"),
     }
+}
+
+/// A word that was found in a text of at most 255 bytes.
+// It takes 2 bytes, so that no call passes it in memory.
+#[derive(Clone, Copy)]
+pub(crate) struct FoundWord {
+    /// The word.
+    pub(crate) word: Word,
+    /// The place after it.
+    pub(crate) end: u8,
+}
+
+/// The first word of the table that is at `place`. Not inlined, so that what takes words stays small; a byte
+/// that continues a word was seen before.
+#[inline(never)]
+pub(crate) fn found_word(text: &[u8], place: usize, table: Table) -> Option<FoundWord>
+    requires some { place < length text.now }
+    requires short { length text.now ≤ 255 }
+    ensures value { FindsWord (words table) text.now place (option_map (λ f. (f.word, f.end)) result) }
+    ensures word { IfSome result (λ found. IsWordOf table found.word) }
+{
+    let (word, end) = table_word_at(text, place, table)?;
+    Some(FoundWord {
+        word,
+        end: end as u8,
+    })
 }

@@ -22,8 +22,11 @@ fn finds(cursor: &mut Cursor<'_>, find: &Find) -> bool {
         Find::Word(table, word) => cursor.word(table) == word,
         Find::Token(byte, found) => cursor.token(byte) == found,
         Find::AtLeast(found) => cursor.pair(b'>', b'=') == found,
-        Find::Letter(Some(byte)) => cursor.letter() == Letter::new(byte),
-        Find::Letter(None) => cursor.letter().is_none(),
+        Find::Letter(Some(byte)) => {
+            let letter = Letter::new(byte);
+            cursor.next_letter() == letter && cursor.letter() == letter
+        }
+        Find::Letter(None) => cursor.next_letter().is_none() && cursor.letter().is_none(),
         Find::Quoted(quoted) => cursor.quoted() == quoted,
     }
 }
@@ -216,6 +219,20 @@ fn is_taken() -> bool {
     cursor.next_byte().is_none() && cursor.place() == 4 && cursor.at_end()
 }
 
+// Whether bytes are taken with the blanks after them where these are expected, as without.
+fn are_spaced_taken() -> bool {
+    let mut cursor = Cursor::new(SPACED, 0);
+    if cursor.next_byte() != Some(b'A') {
+        return false;
+    }
+    cursor.take_spaced_byte();
+    if cursor.place() != 3 || cursor.next_byte() != Some(b'B') {
+        return false;
+    }
+    cursor.take_spaced_byte();
+    cursor.place() == 4 && cursor.at_end()
+}
+
 #[test]
 fn finds_what_is_there(rt: HostRuntime) {
     expect_rows(&rt, "words", &(), WORDS);
@@ -234,4 +251,5 @@ fn finds_what_is_there(rt: HostRuntime) {
     );
     expect_same(&rt, "long blanks", are_long_blanks_passed(), true);
     expect_same(&rt, "a byte is taken", is_taken(), true);
+    expect_same(&rt, "spaced bytes are taken", are_spaced_taken(), true);
 }

@@ -20,15 +20,15 @@ returns-then-self-clause-value c =
           (sym (rw (text, next) at w.continues_word.ensures) ∙ w.if-not-continues_word.true)
     ]
 
-pub returns-in_err-word-clause-value : goal.returns-in_err-word-clause-value
-returns-in_err-word-clause-value c =
+pub returns-in_err-found-clause-value : goal.returns-in_err-found-clause-value
+returns-in_err-found-clause-value c =
     rw c.from_residual.ensures (word_none _ _ _ _ _ (text_is c.self.view_is)
-    (next_is c.self.view_is c.self.invariant.0) c.in_err-word.ensures.value.first)
+    (next_is c.self.view_is c.self.invariant.0) c.in_err-found.ensures.value.first)
 
 pub returns : goal.returns
 returns c =
     let found = word_taken _ _ _ _ _ _ _ _ (text_is c.self.view_is) (next_is c.self.view_is c.self.invariant.0)
-    c.in_ok-word.ensures.value.first c.pass_to.ensures.place in
+    c.in_ok-found.ensures.value.first (rw c.from.ensures at c.pass_to.ensures.place) in
     let finds = word_ahead _ _ _ _ _ found in
     let less = ahead_left _ _ c.pass_to.ensures.text finds.0 in
     record {
