@@ -34,8 +34,7 @@ fn add_over(
         ending,
         line: Vec::from_slice(alloc, last_line(shown))?,
     };
-    tally.add(alloc, key, &plan.chance, &plan.runs)?;
-    Ok(())
+    tally.add(alloc, key, &plan.chance, &plan.runs)
 }
 
 // After each such number of plans, the watch is asked whether progress is due.
