@@ -32,8 +32,7 @@ pub fn chances_text<W: Watch>(
 {
     run_laws();
     let tally = count_runs(alloc, program, lines, rules, watch)?;
-    let text = tally.text(alloc)?;
-    Ok(text)
+    tally.text(alloc)
 }
 
 /// Writes the table that [`chances_text`] gives, while the writer watches.

@@ -34,8 +34,7 @@ fn add_over(
         ending,
         line: Vec::from_slice(alloc, last_line(shown))?,
     };
-    tally.add(alloc, key, &plan.chance, &plan.runs)?;
-    Ok(())
+    tally.add(alloc, key, &plan.chance, &plan.runs)
 }
 
 // After each such number of plans, the watch is asked whether progress is due.
@@ -122,27 +121,22 @@ impl<'p, 'l> Count<'p, 'l> {
             watch.show(self.work.waiting(), billionths);
         }
     }
-    // Counts all that is left to be played.
-    fn finish<W: Watch>(&mut self, alloc: Global, watch: &W) -> Result<(), AllocError>
+
+    // Counts all that is left to be played, and takes out the tally of all runs. It is lent what it counts with, since
+    // each exit of a body is proved with all that the body owns.
+    fn finish<W: Watch>(&mut self, alloc: Global, watch: &W) -> Result<Tally, AllocError>
         requires { IsTallied self.old.stage self.old.tally (standings self.old.work) }
-        ensures { OnOk result (IsTallied self.old.stage self.new.tally []) }
+        ensures { IfOk result (λ tally. IsTallied self.old.stage tally []) }
     {
         let mut played: u32 = 0;
         'plans: loop {
             let Some(plan) = self.work.next(alloc) else {
-                return Ok(());
+                return Ok(std::mem::replace(&mut self.tally, Tally::new(alloc)));
             };
             self.settle(alloc, plan)?;
             played = played.wrapping_add(1);
             self.show(alloc, played, watch);
         }
-    }
-
-    // What is counted so far.
-    fn into_tally(mut self, alloc: Global) -> Tally
-        ensures { result ≡ self.entry.tally }
-    {
-        std::mem::replace(&mut self.tally, Tally::new(alloc))
     }
 }
 
@@ -163,8 +157,5 @@ pub(crate) fn count_runs<W: Watch>(
         (most_answers program.now lines.now rules.limit))) }
 {
     let mut counting = Count::begin(alloc, program, lines, rules)?;
-    let finished = counting.finish(alloc, watch);
-    let tally = counting.into_tally(alloc);
-    finished?;
-    Ok(tally)
+    counting.finish(alloc, watch)
 }

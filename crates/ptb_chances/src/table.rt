@@ -45,8 +45,7 @@ fn write_share(alloc: Global, share: &Share, text: &mut Vec<u8>) -> Result<(), A
 {
     text.extend_from_slice(b"CHANCE ")?;
     write_ratio(alloc, &share.chance.lowest_terms(alloc)?, text)?;
-    write_number(alloc, &share.runs, text)?;
-    Ok(())
+    write_number(alloc, &share.runs, text)
 }
 
 // Writes a result at the end of a text.
@@ -58,8 +57,7 @@ fn write_result(alloc: Global, key: &ResultKey, text: &mut Vec<u8>) -> Result<()
     write_number(alloc, &natural(alloc, key.line.len() as u64)?, text)?;
     text.extend_from_slice(b"\n")?;
     text.extend_from_slice(&key.line)?;
-    text.extend_from_slice(b"\n")?;
-    Ok(())
+    text.extend_from_slice(b"\n")
 }
 
 // Writes a row, with its chance in lowest terms, at the end of a text.
@@ -73,8 +71,7 @@ fn write_row(
         ≡ text.old.items ++ row_text (reduced (row_of_share (key.now, share.now)))) }
 {
     write_share(alloc, share, text)?;
-    write_result(alloc, key, text)?;
-    Ok(())
+    write_result(alloc, key, text)
 }
 
 impl Tally {

@@ -285,8 +285,7 @@ impl Worklist {
             return Ok(());
         };
         if other.place.is_same(&waiting.place) {
-            other.join(alloc, &waiting)?;
-            return Ok(());
+            return other.join(alloc, &waiting);
         }
         self.others.push(waiting)?;
         Ok(())

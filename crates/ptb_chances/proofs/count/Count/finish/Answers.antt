@@ -35,5 +35,5 @@ plans-preserved g c =
 pub returns-in_default : goal.returns-in_default
 returns-in_default g c =
     let none : standings c.plans.self.work ≡ [] = search rules in
-    subst (λ (ws : List Standing). IsTallied c.args.self.now.stage c.plans.self.tally ws) none
-    c.plans.invariant.accounted
+    rw c.replace.ensures.value (subst (λ (ws : List Standing). IsTallied c.args.self.now.stage c.plans.self.tally ws)
+    none c.plans.invariant.accounted)

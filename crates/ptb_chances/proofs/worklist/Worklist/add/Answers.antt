@@ -3,6 +3,7 @@ use Rattle.std.proofs.Common.{◌≡◌, map, refl, sym}
 use Rattle.std.specs.BTreeMap.{insert_entry}
 use Rattle.std.specs.Ordering.{nat_cmp}
 use Rattle.ptb_chances.specs.Waiting.{planned}
+use Rattle.ptb_chances.proofs.PassedOn.{on_ok_four}
 use Rattle.ptb_chances.proofs.Worklists.{joined_there, put_alone, put_aside, put_with}
 use Rattle.ptb_chances.proofs.worklist.Worklist.add.Goals as goal
 
@@ -19,13 +20,14 @@ returns-then-is_same c =
     let self = c.args.self.now in
     let v = c.in-Some.other.now in
     let w = c.args.waiting in
-    let joins = c.in_ok-join.ensures in
+    let joins = c.join.ensures in
     let same : (v.place.machine ≡ w.place.machine) × (v.place.taken ≡ w.place.taken)
     × (v.place.shown.items ≡ w.place.shown.items) =
     c.if-is_same.ensures refl in
+    on_ok_four c.join.result joins.place joins.chance joins.positive joins.runs (λ place chance positive runs.
     put_with (map (planned self.place) self.plans.items) self.others.items self.states.entries c.key-key.result w v
     c.join.new.self _ (sym c.in-Some.ensures.value) ((c.get_mut.follows.holds c.join.new.self).0)
-    (joined_there v w c.join.new.self same.0 same.1 same.2 joins.place joins.chance joins.positive joins.runs)
+    (joined_there v w c.join.new.self same.0 same.1 same.2 place chance positive runs))
 
 pub returns : goal.returns
 returns c =
