@@ -43,7 +43,7 @@ impl<'p, 'l> Stage<'p, 'l> {
     {
         self.trial.restore(alloc, &place.machine)?;
         self.console.screen = TextScreen::from_vec(Vec::from_slice(alloc, &place.shown)?);
-        self.console.source.go(place.taken);
+        self.console.source.seek(place.taken);
         play_plan(
             &mut self.player,
             self.rules,

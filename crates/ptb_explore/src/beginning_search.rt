@@ -37,7 +37,7 @@ fn play_beginning(runner: &mut Runner, common: usize, most: usize) -> Result<(),
     runner.trial.stop_after(most)?;
     runner.play_plan(common)?;
     runner.trial.keep_given();
-    runner.trial.hand_over(&mut runner.report.asked);
+    runner.trial.exchange_answers(&mut runner.report.asked);
     Ok(())
 }
 

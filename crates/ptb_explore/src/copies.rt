@@ -75,14 +75,14 @@ fn copied(
             copy.copy_from(alloc, machine)?;
             Ok(copy)
         }
-        None => made_copy(alloc, machine),
+        None => boxed_copy(alloc, machine),
     }
 }
 
 // Copies a machine into room of its own. Not inlined: a function that has room for a machine on the
 // stack clears that room at each call, which would take a tenth of the time of a listing.
 #[inline(never)]
-fn made_copy(alloc: Global, machine: &Machine) -> Result<Box<Machine>, AllocError>
+fn boxed_copy(alloc: Global, machine: &Machine) -> Result<Box<Machine>, AllocError>
     ensures { IfOk result (λ b. b.value ≡ machine.now) }
 {
     match Box::new(alloc, machine.copy(alloc)?) {
@@ -93,7 +93,7 @@ fn made_copy(alloc: Global, machine: &Machine) -> Result<Box<Machine>, AllocErro
 
 // A machine at the beginning of a run, in room of its own; not inlined for the same reason.
 #[inline(never)]
-fn made_first(alloc: Global, player: &Player) -> Result<Box<Machine>, AllocError>
+fn boxed_first(alloc: Global, player: &Player) -> Result<Box<Machine>, AllocError>
     ensures first { IfOk result (λ b. (input : List (List ℕ)) (choose : Option ℤ) →
         Represents player.now.lines b.value (first_state player.now input choose)) }
     ensures unspent { IfOk result (λ b. b.value.spent ≡ false) }
@@ -209,7 +209,7 @@ impl Copies {
                 player.restart(alloc, &mut machine)?;
                 Ok(machine)
             }
-            None => made_first(alloc, player),
+            None => boxed_first(alloc, player),
         }
     }
 
@@ -305,7 +305,7 @@ impl Copies {
     }
 
     /// Takes the machine of a run that is over, for its room.
-    pub(crate) fn give_back(&mut self, machine: Box<Machine>)
+    pub(crate) fn recycle(&mut self, machine: Box<Machine>)
         ensures { self.new.kept ≡ self.old.kept }
     {
         self.last = Some(machine);

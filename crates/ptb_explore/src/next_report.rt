@@ -29,7 +29,7 @@ impl<'a> Runner<'a> {
     {
         run_laws();
         self.play_plan(common)?;
-        self.trial.hand_over(&mut self.report.asked);
+        self.trial.exchange_answers(&mut self.report.asked);
         Ok(())
     }
 

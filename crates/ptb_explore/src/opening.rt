@@ -45,7 +45,7 @@ impl<'a> Runner<'a> {
         if let Some(mismatch) = run_mismatch(list, &self.trial, ending) {
             return Err(OpenFault::NotARun(mismatch));
         }
-        self.trial.hand_over(&mut self.report.asked);
+        self.trial.exchange_answers(&mut self.report.asked);
         Ok(())
     }
 

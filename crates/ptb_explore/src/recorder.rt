@@ -142,7 +142,7 @@ impl Recorder {
 
     /// Counts so many of the first answers of its plan as given, with the bounds that they are planned
     /// with.
-    pub(crate) fn skip(&mut self, count: usize)
+    pub(crate) fn assume_given(&mut self, count: usize)
         requires planned { self.old.planned ≡ vec_len self.old.asked }
         requires within { count ≤ vec_len self.old.asked }
         ensures asked { self.new.asked.items ≡ self.old.asked.items }
@@ -153,7 +153,7 @@ impl Recorder {
     }
 
     /// Gives its answers and their bounds away, in exchange for others, which are its plan now.
-    pub(crate) fn hand_over(&mut self, asked: &mut Vec<Asked>)
+    pub(crate) fn exchange_answers(&mut self, asked: &mut Vec<Asked>)
         ensures asked { asked.new.items ≡ self.old.asked.items }
         ensures planned { self.new.planned ≡ vec_len self.new.asked }
         ensures given { self.new.given ≡ 0 }

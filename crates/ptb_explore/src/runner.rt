@@ -109,9 +109,9 @@ impl<'a> Runner<'a> {
                 self.copies.begin(self.alloc, &self.player)
             }
             Some(copy) => {
-                self.trial.skip(copy.taken);
+                self.trial.assume_given(copy.taken);
                 screen.cut(copy.shown);
-                source.go(copy.lines);
+                source.seek(copy.lines);
                 match copy.machine {
                     Some(machine) => Ok(machine),
                     None => unreachable!(),
@@ -152,7 +152,7 @@ impl<'a> Runner<'a> {
         let mut machine = machine?;
         let ending = self.play_counted(&mut machine, &mut screen, &mut source);
         let steps = machine.steps();
-        self.copies.give_back(machine);
+        self.copies.recycle(machine);
         self.report.transcript = screen.into_vec();
         self.report.ending = ending?;
         self.report.steps = steps;

@@ -3,7 +3,7 @@ pub use Rattle.ptb_answers.specs.Outcome.{success}
 pub use Rattle.ptb_expr.specs.Short.{IsShortOf}
 pub use Rattle.ptb_expr.specs.Store.{Cells}
 pub use Rattle.ptb_expr.specs.TreeSteps.{run}
-pub use Rattle.ptb_expr.specs.declared.short.ShortValue.{ShortValue}
+pub use Rattle.ptb_expr.specs.declared.short_value.ShortValue.{ShortValue}
 pub use Rattle.ptb_text.specs.Finding.{LiesAhead}
 pub use Rattle.ptb_text.specs.Statements.{Statements, StoredProgram, size_of}
 pub use Rattle.ptb_text.specs.Words.{is_over}

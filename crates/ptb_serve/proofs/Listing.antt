@@ -33,7 +33,7 @@ use Rattle.ptb_serve.specs.ServedRequests.{ListsFewerOf, device_note, reports_no
 use Rattle.ptb_serve.proofs.Listed.{front_note-loaded, front_note-other, front_note-silent, lists_fewer}
 use Rattle.ptb_serve.proofs.Listed.{runs_due, serves_front, serves_mode, serves_reports, serves_some}
 use Rattle.ptb_serve.proofs.Served.{at_known, lists_loaded, nothing_told, serves_loaded}
-use Rattle.ptb_serve.proofs.WholeInput.{all_due, all_written, cut_due, IsDue, TellsWriter}
+use Rattle.ptb_serve.proofs.WholeInput.{all_due, all_written, cut_due, IsDue, ReportsWriter}
 use Rattle.ptb_serve.proofs.WholeInput.{cut_silent, reports_cut, unread_due}
 
 module _ (request : Request) (p : StoredProgram) (memory : p.memory ≡ request.memory)
@@ -132,7 +132,7 @@ module _ (request : Request) (p : StoredProgram) (memory : p.memory ≡ request.
       -- some reports are written
       pub listing_broken : {T : Type 0} (result : Result ℕ Note) (fault : ExploreFault)
           → IsErrAnd result (λ n. n ≡ reports_note fault) → Writes (Err fault)
-          → TellsWriter T fault out.failed out.fails
+          → ReportsWriter T fault out.failed out.fails
           → IsServedOn listing request p input out result
       listing_broken {T = T} result fault is writes =
           reports_cut listing request p input out {T = T} result fault is

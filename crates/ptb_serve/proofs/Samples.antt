@@ -31,7 +31,7 @@ use Rattle.ptb_serve.specs.Replies.{Reply, runs_drawn, sample_reply}
 use Rattle.ptb_serve.specs.ServedRequests.{SamplesFewerOf, Serves, device_note, outcome_of, reports_note}
 use Rattle.ptb_serve.proofs.Listed.{below_both, serves_mode, text-beginning, text-into}
 use Rattle.ptb_serve.proofs.Served.{nothing_told, samples_loaded, serves_loaded}
-use Rattle.ptb_serve.proofs.WholeInput.{all_due, all_written, at_lines, cut_due, cut_silent, IsDue, TellsWriter}
+use Rattle.ptb_serve.proofs.WholeInput.{all_due, all_written, at_lines, cut_due, cut_silent, IsDue, ReportsWriter}
 use Rattle.ptb_serve.proofs.WholeInput.{reports_cut, unread_due}
 
 -- ---- what was written
@@ -110,7 +110,7 @@ module _ (request : Request) (p : StoredProgram) (memory : p.memory ≡ request.
     pub sample_broken : {T : Type 0} (result : Result ℕ Note) (fault : ExploreFault)
         → IsErrAnd result (λ n. n ≡ reports_note fault) → Writes p request seed runs form input out.before out.after
         (Err fault)
-        → TellsWriter T fault out.failed out.fails
+        → ReportsWriter T fault out.failed out.fails
         → IsServedOn sample request p input out result
     sample_broken {T = T} result fault is w =
         reports_cut sample request p input out {T = T} result fault is

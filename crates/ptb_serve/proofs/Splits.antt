@@ -35,7 +35,7 @@ use Rattle.ptb_serve.specs.ServedRequests.{SplitsFewerOf, Serves, device_note, o
 use Rattle.ptb_serve.proofs.Listed.{below_both, serves_mode, text-beginning, text-into}
 use Rattle.ptb_serve.proofs.Mismatches.{run_refuses_none}
 use Rattle.ptb_serve.proofs.Served.{nothing_told, splits_loaded, serves_loaded, takes_nothing}
-use Rattle.ptb_serve.proofs.WholeInput.{all_due, all_written, at_lines, cut_due, cut_silent, IsDue, TellsWriter}
+use Rattle.ptb_serve.proofs.WholeInput.{all_due, all_written, at_lines, cut_due, cut_silent, IsDue, ReportsWriter}
 use Rattle.ptb_serve.proofs.WholeInput.{gives_err, reports_cut, unread_due}
 
 -- ---- what was written
@@ -152,7 +152,7 @@ module _ (request : Request) (p : StoredProgram) (memory : p.memory ≡ request.
 
     pub shares_broken : {T : Type 0} (result : Result ℕ Note) (fault : ExploreFault)
         → IsErrAnd result (λ m. m ≡ reports_note fault) → WritesFrom s (Err fault)
-        → TellsWriter T fault out.failed out.fails
+        → ReportsWriter T fault out.failed out.fails
         → IsServedOn shares request p input out result
     shares_broken {T = T} result fault is w =
         reports_cut shares request p input out {T = T} result fault is

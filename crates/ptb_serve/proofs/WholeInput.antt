@@ -132,8 +132,8 @@ module _ (mode : Mode) (reply : List ℕ → Reply) (Fewer : List ℕ → Type 0
 -- ---- the contract of a mode
 
 -- how often the writer had failed, and has failed
-abbrev pub TellsWriter : Type 0 → ExploreFault → ℕ → ℕ → Type 0
-TellsWriter T fault broke breaks =
+abbrev pub ReportsWriter : Type 0 → ExploreFault → ℕ → ℕ → Type 0
+ReportsWriter T fault broke breaks =
     ((n : ℕ) → IsErrOf {T = T} (Err fault) (explores.Write n) → HasFailed broke breaks)
     × (((n : ℕ) → IsErrOf {T = T} (Err fault) (explores.Write n) → ⊥) → breaks ≡ broke)
 
@@ -186,7 +186,7 @@ module _ (mode : Mode) (request : Request) (p : StoredProgram) where
 
     pub reports_cut : {T : Type 0} (result : Result ℕ Note) (fault : ExploreFault)
         → IsErrAnd result (λ n. n ≡ reports_note fault) → ServesLines (Err (reports_note fault))
-        → TellsWriter T fault output.failed output.fails → IsServedOn mode request p lines output result
+        → ReportsWriter T fault output.failed output.fails → IsServedOn mode request p lines output result
     reports_cut {T = T} result fault is serves writer =
         subst (IsServedOn mode request p lines output) (sym (gives_err result (reports_note fault) is))
         (record {

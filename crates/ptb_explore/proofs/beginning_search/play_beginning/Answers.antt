@@ -47,7 +47,7 @@ returns-clause-ends c =
     (c.run_laws.ensures.reads old.player old.lines.now old.rules) c.args.most (recorded old.trial) c.requires.within
     c.requires.opens new.trial (c.in_ok-play_plan.ensures.plan ∙ c.in_ok-stop_after.ensures.answers) new.report.steps
     new.report.transcript.items new.report.ending c.in_ok-play_plan.ensures.ends in
-    rw (c.hand_over.ensures.asked, c.keep_given.ensures.asked, given_answers new.trial) run
+    rw (c.exchange_answers.ensures.asked, c.keep_given.ensures.asked, given_answers new.trial) run
 
 pub returns-clause-copies : goal.returns-clause-copies
 returns-clause-copies c =
@@ -55,7 +55,7 @@ returns-clause-copies c =
     let new = c.play_plan.new.self in
     kept_same old.player old.player old.lines.now old.lines.now old.rules (recorder_choices new.trial).taken _
     new.report.transcript.items _ new.copies.kept.items _ refl refl
-    (ap answers_in (c.hand_over.ensures.asked ∙ c.keep_given.ensures.asked) ∙ given_answers new.trial) refl refl
+    (ap answers_in (c.exchange_answers.ensures.asked ∙ c.keep_given.ensures.asked) ∙ given_answers new.trial) refl refl
     c.in_ok-play_plan.ensures.copies
 
 pub returns-in_err-stop_after : goal.returns-in_err-stop_after

@@ -64,15 +64,15 @@ cut-requires-in-Some c =
     let on = from_copy (goal.at.cut-requires-in-Some c).In-Some in
     on.shown
 
-pub go-requires : goal.go-requires
-go-requires c =
-    let on = from_copy (goal.at.go-requires c).In-Some in
+pub seek-requires : goal.seek-requires
+seek-requires c =
+    let on = from_copy (goal.at.seek-requires c).In-Some in
     on.stands.within
 
 pub returns-in-Some-machine-clause-within : goal.returns-in-Some-machine-clause-within
 returns-in-Some-machine-clause-within c =
     let on = from_copy (goal.at.returns-in-Some-machine-clause-within c).In-Some in
-    rw c.go.ensures on.stands.within
+    rw c.seek.ensures on.stands.within
 
 pub returns-in-Some-machine-clause-unspent : goal.returns-in-Some-machine-clause-unspent
 returns-in-Some-machine-clause-unspent c =
@@ -88,25 +88,25 @@ returns-in-Some-machine-clause-run_prefix c =
     let on = from_copy (goal.at.returns-in-Some-machine-clause-run_prefix c).In-Some in
     let machine_is : machine_of c.in-Some.copy ≡ Some c.in-Some-machine.machine.value =
     ap (option_map (λ b. b.value)) c.in-Some-machine.is in
-    let given = skipped_bounds c.args.self.now.trial c.skip.new.self c.in-Some.copy.taken c.skip.ensures.asked
-    c.skip.ensures.given in
+    let given = skipped_bounds c.args.self.now.trial c.assume_given.new.self c.in-Some.copy.taken c.assume_given.ensures.asked
+    c.assume_given.ensures.given in
     rw c.in-Some-machine.is (on_prefix c.args.self.now.player c.args.source.now.lines c.args.self.now.rules
     c.args.common (recorded c.args.self.now.trial) (answers_in c.args.self.now.report.asked.items)
     (bounds_in c.args.self.now.trial.asked.items) c.args.screen.now c.go_back.new.self.kept.items
-    c.in-Some.copy c.requires.agrees on (given_bounds c.skip.new.self) (recorded c.skip.new.self) given
-    (ap answers_in c.skip.ensures.asked) _ c.cut-in-Some.new.self c.go.new.self c.in-Some-machine.machine.value
-    c.cut-in-Some.ensures c.go.ensures machine_is)
+    c.in-Some.copy c.requires.agrees on (given_bounds c.assume_given.new.self) (recorded c.assume_given.new.self) given
+    (ap answers_in c.assume_given.ensures.asked) _ c.cut-in-Some.new.self c.seek.new.self c.in-Some-machine.machine.value
+    c.cut-in-Some.ensures c.seek.ensures machine_is)
 
 pub returns-in-Some-machine-clause-copies : goal.returns-in-Some-machine-clause-copies
 returns-in-Some-machine-clause-copies c =
     let on = from_copy (goal.at.returns-in-Some-machine-clause-copies c).In-Some in
-    let given = skipped_bounds c.args.self.now.trial c.skip.new.self c.in-Some.copy.taken c.skip.ensures.asked
-    c.skip.ensures.given in
+    let given = skipped_bounds c.args.self.now.trial c.assume_given.new.self c.in-Some.copy.taken c.assume_given.ensures.asked
+    c.assume_given.ensures.given in
     on_copies c.args.self.now.player c.args.source.now.lines c.args.self.now.rules c.args.common
     (recorded c.args.self.now.trial) (answers_in c.args.self.now.report.asked.items)
     (bounds_in c.args.self.now.trial.asked.items) c.args.screen.now c.go_back.new.self.kept.items
-    c.in-Some.copy c.requires.agrees on (given_bounds c.skip.new.self) (recorded c.skip.new.self) given
-    (ap answers_in c.skip.ensures.asked) c.cut-in-Some.new.self c.cut-in-Some.ensures
+    c.in-Some.copy c.requires.agrees on (given_bounds c.assume_given.new.self) (recorded c.assume_given.new.self) given
+    (ap answers_in c.assume_given.ensures.asked) c.cut-in-Some.new.self c.cut-in-Some.ensures
 
 pub returns-in-Some-machine-clause-steps : goal.returns-in-Some-machine-clause-steps
 returns-in-Some-machine-clause-steps c =
@@ -122,10 +122,10 @@ unreachable-requires c =
     let some : machine_of c.in-Some.copy ≡ Some on.stands.machine = on.stands.machine_is in
     absurd cc
 
-pub skip-requires-clause-within : goal.skip-requires-clause-within
-skip-requires-clause-within c =
+pub assume_given-requires-clause-within : goal.assume_given-requires-clause-within
+assume_given-requires-clause-within c =
     let trial = c.args.self.now.trial in
-    let on = from_copy (goal.at.skip-requires-clause-within c).In-Some in
+    let on = from_copy (goal.at.assume_given-requires-clause-within c).In-Some in
     let few = on_len c.args.self.now.player c.args.source.now.lines c.args.self.now.rules c.args.common
     (recorded trial) (answers_in c.args.self.now.report.asked.items) (bounds_in trial.asked.items) c.args.screen.now
     c.go_back.new.self.kept.items c.in-Some.copy c.requires.agrees on in
@@ -135,11 +135,11 @@ pub returns-in-Some-machine-clause-same : goal.returns-in-Some-machine-clause-sa
 returns-in-Some-machine-clause-same c = refl
 
 pub returns-in-Some-machine-clause-plan : goal.returns-in-Some-machine-clause-plan
-returns-in-Some-machine-clause-plan c = same_plan c.args.self.now.trial c.skip.new.self c.requires.fresh
-    (ap answers_in c.skip.ensures.asked) c.skip.ensures.planned
+returns-in-Some-machine-clause-plan c = same_plan c.args.self.now.trial c.assume_given.new.self c.requires.fresh
+    (ap answers_in c.assume_given.ensures.asked) c.assume_given.ensures.planned
 
 pub returns-in-Some-machine-clause-same_lines : goal.returns-in-Some-machine-clause-same_lines
-returns-in-Some-machine-clause-same_lines c = ap (λ (s : LineList). s.lines) c.go.ensures
+returns-in-Some-machine-clause-same_lines c = ap (λ (s : LineList). s.lines) c.seek.ensures
 
 pub returns-in-Some-machine-clause-back : goal.returns-in-Some-machine-clause-back
 returns-in-Some-machine-clause-back c = copy_left _ _ _ _ _ c.in-Some.is c.in_ok-go_back.ensures

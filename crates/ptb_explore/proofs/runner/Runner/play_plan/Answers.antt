@@ -53,7 +53,7 @@ returns-clause-copies c =
     (sym (ap (λ (r : Runner). r.player) same)) (sym lines) (sym (ap (λ (r : Runner). r.rules) same))
     (recorder_choices c.play_counted-ending.new.self.trial).taken _ c.play_counted-ending.new.screen _
     c.play_counted-ending.new.self.copies.kept.items _
-    refl c.into_vec.ensures (ap (λ k. k.items) c.give_back.ensures) c.in_ok-self.ensures.copies
+    refl c.into_vec.ensures (ap (λ k. k.items) c.recycle.ensures) c.in_ok-self.ensures.copies
 
 pub returns-clause-played : goal.returns-clause-played
 returns-clause-played c =

@@ -14,7 +14,7 @@ use Rattle.ptb_explore.proofs.Trial.{all_bounds, all_given, open_ends}
 use Rattle.ptb_explore.proofs.runner.Runner.report_plan.Goals as goal
 
 -- the plan was played to the end of a run
-ended : (c : goal.After-hand_over)
+ended : (c : goal.After-exchange_answers)
     → PlanEndsWith (play c.args.self.now.player c.args.self.now.lines.now c.args.self.now.rules)
     (recorded c.args.self.now.trial) (recorded c.play_plan.new.self.trial) (given_bounds c.play_plan.new.self.trial)
     (record {
@@ -35,7 +35,7 @@ pub returns-clause-ends : goal.returns-clause-ends
 returns-clause-ends c =
     let run = ended c in
     rw (
-      c.hand_over.ensures.asked,
+      c.exchange_answers.ensures.asked,
       all_bounds (play c.args.self.now.player c.args.self.now.lines.now
           c.args.self.now.rules) c.play_plan.new.self.trial run.bounds_are,
     ) run
@@ -46,7 +46,7 @@ returns-clause-copies c =
     let new = c.play_plan.new.self in
     let run = ended c in
     kept_same old.player old.player old.lines.now old.lines.now old.rules (recorder_choices new.trial).taken _
-    new.report.transcript.items _ new.copies.kept.items _ refl refl (ap answers_in c.hand_over.ensures.asked
+    new.report.transcript.items _ new.copies.kept.items _ refl refl (ap answers_in c.exchange_answers.ensures.asked
     ∙ sym (all_given (play old.player old.lines.now old.rules) new.trial run.bounds_are)) refl refl
     c.in_ok-play_plan.ensures.copies
 

@@ -1,11 +1,11 @@
 -- This file answers what is left to prove of an IF that is done by its short form.
 use Rattle.std.proofs.Common.{◌≡◌, [], rules, subst, sym, to_z, of_z, w16}
-use Rattle.ptb_expr.specs.declared.short.ShortValue.{ShortValue}
-use Rattle.ptb_expr.specs.declared.short.ShortValue.TheVariants as values
+use Rattle.ptb_expr.specs.declared.short_value.ShortValue.{ShortValue}
+use Rattle.ptb_expr.specs.declared.short_value.ShortValue.TheVariants as values
 use Rattle.ptb_answers.specs.Outcome.{success}
 use Rattle.ptb_expr.specs.Short.{IsShortOf}
 use Rattle.ptb_expr.specs.TreeSteps.{run}
-use Rattle.ptb_machine.specs.declared.short.ShortCommand.TheVariants as commands
+use Rattle.ptb_machine.specs.declared.short_command.ShortCommand.TheVariants as commands
 use Rattle.ptb_code.specs.Code.{steps_at}
 use Rattle.ptb_machine.specs.ProgramCode.{code_from}
 use Rattle.ptb_machine.specs.ShortForms.{place_by}
