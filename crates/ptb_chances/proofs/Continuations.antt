@@ -11,7 +11,7 @@ use Rattle.ptb_code.specs.State.{State}
 use Rattle.ptb_machine.specs.Laws.{RunLaws}
 use Rattle.ptb_machine.specs.Steps.{QuietTurns}
 use Rattle.ptb_explore.specs.PlannedPlays.{run_from}
-use Rattle.ptb_chances.specs.Standing.{Came, IsOver, SameEnd, StandsAt}
+use Rattle.ptb_chances.specs.Standing.{Came, IsOver, SameEnd, IsStageAt}
 use Rattle.ptb_chances.proofs.PlaySteps.{advanced}
 use Rattle.ptb_chances.proofs.Picked.{whole}
 
@@ -118,7 +118,7 @@ module _ (laws : RunLaws) (p q : StoredProgram) (rules r : Rules) (S : State) (m
 
   -- then one is done
   pub gone_on : (b : Answers) (k : Configuration) (rest rest2 : List (List ℕ)) (more : List ℕ) → b ≡ [] → rest ≡ rest2
-      → ((t : State) → StandsAt q r new now text t → Came q r t b k rest more) → Came p rules S [] k rest2 more
+      → ((t : State) → IsStageAt q r new now text t → Came q r t b k rest more) → Came p rules S [] k rest2 more
   gone_on b k rest rest2 more none rest_is plays =
       let y : Came q r gone.state [] k rest more = subst (λ (z : Answers). Came q r gone.state z k rest more) none
       (plays gone.state gone.stands) in
@@ -126,7 +126,7 @@ module _ (laws : RunLaws) (p q : StoredProgram) (rules r : Rules) (S : State) (m
       (came_later q r S [] new now text gone k rest more y)
 
   pub gone_over : (b : Answers) (g : ℕ) (e : Ending) (more : List ℕ) → b ≡ []
-      → ((t : State) → StandsAt q r new now text t → IsOver q r t (take g b) e more) → IsOver p rules S [] e more
+      → ((t : State) → IsStageAt q r new now text t → IsOver q r t (take g b) e more) → IsOver p rules S [] e more
   gone_over b g e more none plays = over_named q p r rules S [] e more a.program a.by
       (over_later q r S [] new now text gone [] (take g b) e more refl (none_taken g b none)
       (plays gone.state gone.stands))
@@ -143,14 +143,14 @@ module _ (p q : StoredProgram) (rules r : Rules) (program : q ≡ p) (by : r ≡
   plan_opens opens = opens_later q r S a m now shown named (subst (λ (z : StoredProgram). is_open (run_from z r S a)
       ≡ true) (sym program) (subst (λ (z : Rules). is_open (run_from p z S a) ≡ true) (sym by) opens))
 
-  pub plan_over : (e : Ending) (more : List ℕ) → ((t : State) → StandsAt q r m now shown t → IsOver q r t [] e more)
+  pub plan_over : (e : Ending) (more : List ℕ) → ((t : State) → IsStageAt q r m now shown t → IsOver q r t [] e more)
       → IsOver p rules S (take (length a) a) e more
   plan_over e more goes = over_named q p r rules S (take (length a) a) e more program by
       (over_later q r S a m now shown named (take (length a) a) [] e more (whole a) refl
       (goes named.state named.stands))
 
   pub plan_waits : (k : Configuration) (rest rest2 : List (List ℕ)) (end : List ℕ) → rest ≡ rest2
-      → ((t : State) → StandsAt q r m now shown t → Came q r t [] k rest end) → Came p rules S a k rest2 end
+      → ((t : State) → IsStageAt q r m now shown t → Came q r t [] k rest end) → Came p rules S a k rest2 end
   plan_waits k rest rest2 end rest_is goes = came_named q p r rules S a a k k rest rest2 end end program by refl refl
       rest_is refl (came_later q r S a m now shown named k rest end (goes named.state named.stands))
 

@@ -12,8 +12,8 @@ use Rattle.ptb_machine.specs.Play.{Finish, play}
 use Rattle.ptb_explore.specs.Chances.{Row, chance_of_all}
 use Rattle.ptb_explore.specs.RunTree.{leaves, tree}
 use Rattle.ptb_chances.specs.Accounts.{AreAlike, account, chance_in, runs_in, row_of_run}
-use Rattle.ptb_chances.specs.Standing.{StandsAt}
-use Rattle.ptb_chances.specs.Waiting.{Standing, Waits, StandsFor, below, Covers, Takes, SamePlace, IsJoined, Puts}
+use Rattle.ptb_chances.specs.Standing.{IsStageAt}
+use Rattle.ptb_chances.specs.Waiting.{Standing, Waits, CountsFor, below, Covers, Takes, SamePlace, IsJoined, Puts}
 use Rattle.ptb_chances.proofs.Accounts.{alike_self, alike_then}
 use Rattle.ptb_chances.proofs.Joined.{chance_joined, runs_joined}
 use Rattle.ptb_chances.proofs.Sums.{plus_comm, plus_assoc, plus_nothing, equals_plus, equals_then, plus_positive}
@@ -111,7 +111,7 @@ module _ (p : StoredProgram) (input : List (List ℕ)) (rules : Rules) (most : �
       ∙ sym (append_assoc (leaves game q most) (below p input rules most qs) (below p input rules most rs))
 
   abbrev pub CoveredBy : Standing → List Answers → List Standing → Type 0
-  CoveredBy w done ws = (qs : List Answers) × StandsFor p input rules w qs
+  CoveredBy w done ws = (qs : List Answers) × CountsFor p input rules w qs
       × Covers p input rules most (below p input rules most qs ++ done) ws
 
   out_of : (front back : List Standing) (w : Standing) (done : List Answers)
@@ -131,7 +131,7 @@ module _ (p : StoredProgram) (input : List (List ℕ)) (rules : Rules) (most : �
         ),
       )
 
-  into : (front back : List Standing) (w : Standing) (qs done : List Answers) → StandsFor p input rules w qs
+  into : (front back : List Standing) (w : Standing) (qs done : List Answers) → CountsFor p input rules w qs
       → Covers p input rules most (below p input rules most qs ++ done) (front ++ back)
       → Covers p input rules most done (front ++ w ∷ back)
   into [] back w qs done s c = (qs, s, c)
@@ -157,7 +157,7 @@ module _ (p : StoredProgram) (input : List (List ℕ)) (rules : Rules) (most : �
       )
 
   pub put_in : (old new : List Standing) (w : Standing) (qs done : List Answers) → Takes new w old
-      → StandsFor p input rules w qs → Covers p input rules most (below p input rules most qs ++ done) old
+      → CountsFor p input rules w qs → Covers p input rules most (below p input rules most qs ++ done) old
       → Covers p input rules most done new
   put_in old new w qs done t s c =
       let there : Covers p input rules most (below p input rules most qs ++ done) (t.front ++ t.back) = subst
@@ -171,9 +171,9 @@ module _ (p : StoredProgram) (input : List (List ℕ)) (rules : Rules) (most : �
     waits_too : (q : Answers) → Waits p input rules v q → Waits p input rules u q
     waits_too q x = record {
       state = x.state;
-      stands = subst (λ (s : List ℕ). StandsAt p rules u.machine (drop u.taken input) s x.state) same.shown
-          (subst (λ (n : ℕ). StandsAt p rules u.machine (drop n input) v.shown x.state) same.taken
-          (subst (λ (m : Configuration). StandsAt p rules m (drop v.taken input) v.shown x.state) same.machine
+      stands = subst (λ (s : List ℕ). IsStageAt p rules u.machine (drop u.taken input) s x.state) same.shown
+          (subst (λ (n : ℕ). IsStageAt p rules u.machine (drop n input) v.shown x.state) same.taken
+          (subst (λ (m : Configuration). IsStageAt p rules m (drop v.taken input) v.shown x.state) same.machine
           x.stands));
       begun = x.begun;
       answers = x.answers ∙ ap (λ plan. x.begun ++ plan) same.plan;
@@ -194,8 +194,8 @@ module _ (p : StoredProgram) (input : List (List ℕ)) (rules : Rules) (most : �
   chances_joined (q ∷ qs) rs = ap (plus (row_of_run game q).chance) (chances_joined qs rs)
       ∙ sym (plus_assoc (row_of_run game q).chance (chance_of_all game qs) (chance_of_all game rs))
 
-  both_stand : (v w u : Standing) (qs rs : List Answers) → IsJoined v w u → StandsFor p input rules v qs
-      → StandsFor p input rules w rs → StandsFor p input rules u (qs ++ rs)
+  both_stand : (v w u : Standing) (qs rs : List Answers) → IsJoined v w u → CountsFor p input rules v qs
+      → CountsFor p input rules w rs → CountsFor p input rules u (qs ++ rs)
   both_stand v w u qs rs j s t = record {
     all = all_append (Waits p input rules u) qs rs (all_wait v u j.first qs s.all) (all_wait w u j.second rs t.all);
     unspent = sym (ap (λ (m : Configuration). m.spent) (j.first).machine) ∙ s.unspent;
@@ -212,7 +212,7 @@ module _ (p : StoredProgram) (input : List (List ℕ)) (rules : Rules) (most : �
 
   -- plays are put in, by themselves or together with others
   pub puts : (old new : List Standing) (w : Standing) (qs done : List Answers) → Puts old w new
-      → StandsFor p input rules w qs → Covers p input rules most (below p input rules most qs ++ done) old
+      → CountsFor p input rules w qs → Covers p input rules most (below p input rules most qs ++ done) old
       → Covers p input rules most done new
   puts old new w qs done (inl t) s c = put_in old new w qs done t s c
   puts old new w qs done (inr x) s c =

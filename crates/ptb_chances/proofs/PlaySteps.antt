@@ -30,7 +30,7 @@ use Rattle.ptb_explore.specs.Chances.{last_line}
 use Rattle.ptb_explore.specs.PlannedPlays.{run_from}
 use Rattle.ptb_explore.proofs.PublicLemmas.{of_turn}
 use Rattle.ptb_chances.specs.Planned.{PlanAnswers, plan_choices, RefusedByPlanAnswers}
-use Rattle.ptb_chances.specs.Standing.{SameEnd, StandsAt, Came, IsOver, IsAsked, PlaysTo, played_of}
+use Rattle.ptb_chances.specs.Standing.{SameEnd, IsStageAt, Came, IsOver, IsAsked, PlaysTo, played_of}
 use Rattle.ptb_chances.specs.declared.plays.Played.{Played}
 use Rattle.ptb_chances.proofs.Picked.{all_taken, next_taken}
 
@@ -290,7 +290,7 @@ fits_there p rules S a m left shown u = record { state = u.state; represents = u
 
 pub came_first : (p : StoredProgram) (rules : Rules) (S : State) (a : Answers) (m : Configuration)
     (left : List (List ℕ)) (shown : List ℕ)
-    → a ≡ [] → StandsAt p rules m left shown S → Came p rules S a m left shown
+    → a ≡ [] → IsStageAt p rules m left shown S → Came p rules S a m left shown
 came_first p rules S a m left shown none h =
     record { state = S; stands = h; reached = λ later. ap (λ b. run_from p rules S (b ++ later)) none }
 
@@ -311,10 +311,10 @@ plays_by p rules S given plan m left now shown x same y =
 
 pub stands_by : (p : StoredProgram) (rules : Rules) (S : State) (m n : Configuration) (left now : List (List ℕ))
     (shown text : List ℕ)
-    → m ≡ n → left ≡ now → shown ≡ text → StandsAt p rules m left shown S → StandsAt p rules n now text S
+    → m ≡ n → left ≡ now → shown ≡ text → IsStageAt p rules m left shown S → IsStageAt p rules n now text S
 stands_by p rules S m n left now shown text machine lines_are end x =
-    subst (λ (k : Configuration). StandsAt p rules k now text S) machine (subst (λ (ls : List (List ℕ)). StandsAt p
-    rules m ls text S) lines_are (subst (λ (b : List ℕ). StandsAt p rules m left b S) end x))
+    subst (λ (k : Configuration). IsStageAt p rules k now text S) machine (subst (λ (ls : List (List ℕ)). IsStageAt p
+    rules m ls text S) lines_are (subst (λ (b : List ℕ). IsStageAt p rules m left b S) end x))
 
 -- lines that were taken were there
 pub taken_within : (s t : LineList) (xs : List (List ℕ)) → Gives s xs t → s.taken ≤ length s.lines

@@ -23,8 +23,8 @@ use Rattle.ptb_explore.specs.RunTree.{answers_to, leaves, tree}
 use Rattle.ptb_explore.proofs.PublicLemmas.{bounds-append, is_answer_from}
 use Rattle.ptb_chances.specs.Accounts.{AddsRow, AreSame, IsAccountOf, HasChance, account, chance_in}
 use Rattle.ptb_chances.specs.Accounts.{chance_of_rows, runs_of_rows}
-use Rattle.ptb_chances.specs.Standing.{StandsAt, Came, IsOver, IsAsked}
-use Rattle.ptb_chances.specs.Waiting.{Standing, Waits, StandsFor, below, Covers, Accounted, Takes}
+use Rattle.ptb_chances.specs.Standing.{IsStageAt, Came, IsOver, IsAsked}
+use Rattle.ptb_chances.specs.Waiting.{Standing, Waits, CountsFor, below, Covers, Accounted, Takes}
 use Rattle.ptb_chances.specs.Waiting.{Puts, PutsAnswers, after_answer, first_standing, gone_to}
 use Rattle.ptb_chances.proofs.Accounts.{alike_back, alike_self, chance_is, runs_are}
 use Rattle.ptb_chances.proofs.Accounts.{same_alike as same_alike_of, same_from_alike, same_then}
@@ -49,7 +49,7 @@ module _ (p : StoredProgram) (input : List (List ℕ)) (rules : Rules) (most : �
   game = play p input rules
 
   abbrev pub Stand : List Answers → Type 0
-  Stand qs = StandsFor p input rules w qs
+  Stand qs = CountsFor p input rules w qs
 
   game_from : (q : Answers) (x : Waits p input rules w q) (later : Answers)
       → game (q ++ later) ≡ run_from p rules x.state (w.plan ++ later)
@@ -176,7 +176,7 @@ module _ (p : StoredProgram) (input : List (List ℕ)) (rules : Rules) (most : �
 
     pub gone_stands : (qs : List Answers) → Stand qs
         → ((q : Answers) (x : Waits p input rules w q) → Came p rules x.state w.plan m (drop taken input) shown)
-        → m.spent ≡ false → taken ≤ length input → StandsFor p input rules gone qs
+        → m.spent ≡ false → taken ≤ length input → CountsFor p input rules gone qs
     gone_stands qs s came unspent within = record {
       all = all_on qs s.all came;
       unspent = unspent;
@@ -253,7 +253,7 @@ module _ (p : StoredProgram) (input : List (List ℕ)) (rules : Rules) (most : �
         rw product whole
 
     stands_after : (k : ℕ) (qs : List Answers) → is_answer (pos n) (pos k) ≡ true → AllByRecursion AsksSo qs → Stand qs
-        → StandsFor p input rules (after_answer w (pos n) (pos k)) (map (more k) qs)
+        → CountsFor p input rules (after_answer w (pos n) (pos k)) (map (more k) qs)
     stands_after k qs inside a s =
         let all : Ratio = chance_of_all game qs in
         let first : w.chance.numerator * (all.denominator * n) ≡ all.numerator * (w.chance.denominator * n) =
@@ -390,7 +390,7 @@ module _ (p : StoredProgram) (input : List (List ℕ)) (rules : Rules) (most : �
   run = play p input rules
 
   abbrev Each : (State → Type 0) → Type 0
-  Each P = (S : State) → StandsAt p rules w.machine (drop w.taken input) w.shown S → P S
+  Each P = (S : State) → IsStageAt p rules w.machine (drop w.taken input) w.shown S → P S
 
   -- a play waits there
   abbrev one_waits : (q : Answers) × Waits p input rules w q
@@ -402,7 +402,7 @@ module _ (p : StoredProgram) (input : List (List ℕ)) (rules : Rules) (most : �
       there [] all some = absurd (omega (arith, some))
       there (q ∷ qs) all some = (q, all.0)
 
-  pub one_opens : (S : State) × StandsAt p rules w.machine
+  pub one_opens : (S : State) × IsStageAt p rules w.machine
       (drop w.taken input) w.shown S × (is_open (run_from p rules S w.plan) ≡ true)
   one_opens =
       let x = one_waits.1 in (

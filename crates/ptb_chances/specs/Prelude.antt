@@ -21,6 +21,6 @@ pub use Rattle.ptb_chances.specs.Continuations.{ComesTo, GoesOn}
 pub use Rattle.ptb_chances.specs.Counted.{IsTallied, load_left}
 pub use Rattle.ptb_chances.specs.Keys.{key_result, result_text, row_of_share, share_text}
 pub use Rattle.ptb_chances.specs.Order.{result_order_total}
-pub use Rattle.ptb_chances.specs.Standing.{CanPlay, PlaysTo, SameEnd, StandsAt, StandsAtPlace}
+pub use Rattle.ptb_chances.specs.Standing.{CanPlay, PlaysTo, SameEnd, IsStageAt, IsStageAtPlace}
 pub use Rattle.ptb_chances.specs.Waiting.{planned, standings, after_answer, first_standing, gone_to, Puts, PutsAnswers}
 pub use Rattle.ptb_chances.specs.Waiting.{states_left, Takes, unplanned}

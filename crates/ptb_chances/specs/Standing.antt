@@ -1,8 +1,8 @@
 -- This file defines where a play is, and its results with some more answers.
 --     SameEnd s t                      whatever is shown next, the last line is the same after s and after t
---     StandsAt p rules m left shown S      a machine represents the state S; these lines are left, and this was shown
+--     IsStageAt p rules m left shown S      a machine represents the state S; these lines are left, and this was shown
 --                                          last
---     StandsAtPlace stage place S      the same of the machine of a place
+--     IsStageAtPlace stage place S      the same of the machine of a place
 --     CanPlay stage place plan         a plan that is open can be played on from a place
 --     Came p rules S a m left shown    with the answers a, a run has come from the state S to where a machine is
 --     IsOver p rules S a ending shown  with these answers it is over
@@ -31,26 +31,26 @@ abbrev pub SameEnd : List ℕ → List ℕ → Type 0
 SameEnd s t = (more : List ℕ) → last_line (lines (s ++ more)) ≡ last_line (lines (t ++ more))
 
 -- of what was shown before, only the last line matters
-pub record StandsAt (p : StoredProgram) (rules : Rules) (m : Configuration) (left : List (List ℕ)) (shown : List ℕ)
+pub record IsStageAt (p : StoredProgram) (rules : Rules) (m : Configuration) (left : List (List ℕ)) (shown : List ℕ)
     (S : State) : Type 0 where
   pub represents : Represents p.lines m S
   pub lines_left : S.lines ≡ left
   pub choose : S.choose ≡ rules.choose
   pub same_end : SameEnd S.shown shown
 
-abbrev pub StandsAtPlace : Stage → Place → State → Type 0
-StandsAtPlace s place S = StandsAt s.player s.rules place.machine (drop place.taken s.console.source.lines)
+abbrev pub IsStageAtPlace : Stage → Place → State → Type 0
+IsStageAtPlace s place S = IsStageAt s.player s.rules place.machine (drop place.taken s.console.source.lines)
     place.shown.items S
 
 pub record CanPlay (s : Stage) (place : Place) (plan : Answers) : Type 0 where
   pub unspent : place.machine.spent ≡ false
   pub within : place.taken ≤ length s.console.source.lines
-  pub opens : (S : State) × StandsAtPlace s place S × (is_open (run_from s.player s.rules S plan) ≡ true)
+  pub opens : (S : State) × IsStageAtPlace s place S × (is_open (run_from s.player s.rules S plan) ≡ true)
 
 pub record Came (p : StoredProgram) (rules : Rules) (S : State) (answers : Answers) (m : Configuration)
     (left : List (List ℕ)) (shown : List ℕ) : Type 0 where
   pub state : State
-  pub stands : StandsAt p rules m left shown state
+  pub stands : IsStageAt p rules m left shown state
   pub reached : (later : Answers) → run_from p rules S (answers ++ later) ≡ run_from p rules state later
 
 pub record IsOver (p : StoredProgram) (rules : Rules) (S : State) (answers : Answers) (ending : Ending)

@@ -4,7 +4,7 @@
 --     planned, unplanned             what the code holds of it
 --     standings w                    all that is left to be played
 --     Waits p input rules w q        the play with the answers q waits there
---     StandsFor p input rules w qs   these plays wait there, and no others
+--     CountsFor p input rules w qs   these plays wait there, and no others
 --     below play most qs             the runs that begin with one of some lists of answers
 --     Accounted ..                   with what waits, the tally is the account of all runs
 --     Takes old w new                one of them was taken out
@@ -29,7 +29,7 @@ use Rattle.ptb_chances.specs.declared.worklist.Plan.{Plan}
 use Rattle.ptb_chances.specs.declared.worklist.Waiting.{Waiting}
 use Rattle.ptb_chances.specs.declared.worklist.Worklist.{Worklist}
 use Rattle.ptb_chances.specs.Accounts.{AreAlike, IsAccountOf, account}
-use Rattle.ptb_chances.specs.Standing.{StandsAt}
+use Rattle.ptb_chances.specs.Standing.{IsStageAt}
 
 pub record Standing : Type 0 where
   pub machine : Configuration
@@ -99,14 +99,14 @@ gone_to m taken shown chance runs = record {
 module _ (p : StoredProgram) (input : List (List ℕ)) (rules : Rules) where
   pub record Waits (w : Standing) (q : Answers) : Type 0 where
     pub state : State
-    pub stands : StandsAt p rules w.machine (drop w.taken input) w.shown state
+    pub stands : IsStageAt p rules w.machine (drop w.taken input) w.shown state
     pub begun : Answers
     pub answers : q ≡ begun ++ w.plan
     pub reached : (later : Answers) → play p input rules (begun ++ later) ≡ run_from p rules state later
     pub opens : is_open (play p input rules q) ≡ true
     pub positive : 0 < bound_product (bounds (play p input rules) q)
 
-  pub record StandsFor (w : Standing) (qs : List Answers) : Type 0 where
+  pub record CountsFor (w : Standing) (qs : List Answers) : Type 0 where
     pub all : AllByRecursion (Waits w) qs
     pub unspent : w.machine.spent ≡ false
     pub within : w.taken ≤ length input
@@ -122,7 +122,7 @@ module _ (p : StoredProgram) (input : List (List ℕ)) (rules : Rules) where
   abbrev pub Covers : ℕ → List Answers → List Standing → Type 0
   Covers most done [] = AreAlike (account (play p input rules) (tree (play p input rules) most))
       (account (play p input rules) done)
-  Covers most done (w ∷ ws) = (qs : List Answers) × StandsFor w qs × Covers most (below most qs ++ done) ws
+  Covers most done (w ∷ ws) = (qs : List Answers) × CountsFor w qs × Covers most (below most qs ++ done) ws
 
   pub record Accounted (most : ℕ) (tally : List Row) (ws : List Standing) : Type 0 where
     pub done : List Answers

@@ -4,7 +4,7 @@ ghost use Rattle.std.specs.Prelude.{◌≡◌, ◌-◌, ◌<◌, ◌≤◌, ℕ,
 ghost use Rattle.ptb_answers.specs.Outcome.{is_open};
 ghost use Rattle.ptb_code.specs.State.{State};
 ghost use Rattle.ptb_explore.specs.PlannedPlays.{run_from};
-ghost use Rattle.ptb_chances.specs.Standing.{played_of, PlaysTo, StandsAt};
+ghost use Rattle.ptb_chances.specs.Standing.{played_of, PlaysTo, IsStageAt};
 
 use crate::planned::PlanChooser;
 use ptb_machine::{Ending, Lines, Machine, Player, Rules, RunFault, TextScreen, run_laws};
@@ -57,7 +57,7 @@ pub(crate) fn play_plan(
 ) -> Result<Played, AllocError>
     requires unspent { machine.old.spent ≡ false }
     requires within { console.old.source.taken ≤ length console.old.source.lines }
-    requires opens { (S : State) × StandsAt player.old rules machine.old
+    requires opens { (S : State) × IsStageAt player.old rules machine.old
         (drop console.old.source.taken console.old.source.lines) console.old.screen S
         × (is_open (run_from player.old rules S answers.now) ≡ true) }
     ensures program { player.new ≡ player.old }
@@ -65,7 +65,7 @@ pub(crate) fn play_plan(
     ensures within { IfOk result (λ _.
         console.new.source.taken ≤ length console.old.source.lines) }
     ensures plays { IfOk result (λ played. (given : ℕ) × ((S : State) →
-        StandsAt player.old rules machine.old
+        IsStageAt player.old rules machine.old
         (drop console.old.source.taken console.old.source.lines) console.old.screen S
         → PlaysTo player.old rules S (take given answers.now) answers.now
         machine.new (drop console.new.source.taken console.old.source.lines) console.new.screen

@@ -2,7 +2,7 @@
 
 ghost use Rattle.std.specs.Prelude.{◌≡◌, ◌+◌, ◌-◌, ◌<◌, ◌≤◌, ℕ, [], None, false, true, drop, take, length, IfOk, OnOk};
 ghost use Rattle.ptb_chances.specs.Prelude.{is_open, State, run_from, ComesTo, GoesOn, CanPlay, PlaysTo, SameEnd};
-ghost use Rattle.ptb_chances.specs.Prelude.{StandsAt, StandsAtPlace, FitsProgram, QuietTurns};
+ghost use Rattle.ptb_chances.specs.Prelude.{IsStageAt, IsStageAtPlace, FitsProgram, QuietTurns};
 
 use crate::last_line::last_lines;
 use crate::plays::{Console, Played, play_plan};
@@ -30,7 +30,7 @@ impl<'p, 'l> Stage<'p, 'l> {
         ensures rules { self.new.rules ≡ self.old.rules }
         ensures same_lines { self.new.console.source.lines ≡ self.old.console.source.lines }
         ensures plays { IfOk result (λ played. (given : ℕ) × ((S : State) →
-            StandsAtPlace self.old place.now S → PlaysTo self.old.player self.old.rules S
+            IsStageAtPlace self.old place.now S → PlaysTo self.old.player self.old.rules S
             (take given plan.now.answers.items) plan.now.answers.items self.new.trial
             (drop self.new.console.source.taken self.old.console.source.lines)
             self.new.console.screen played)) }
@@ -78,7 +78,7 @@ impl<'p, 'l> Stage<'p, 'l> {
     fn go_on(&mut self, alloc: Global) -> Result<Option<Ending>, AllocError>
         requires unspent { self.old.trial.spent ≡ false }
         requires within { self.old.console.source.taken ≤ length self.old.console.source.lines }
-        requires opens { (S : State) × StandsAt self.old.player self.old.rules self.old.trial
+        requires opens { (S : State) × IsStageAt self.old.player self.old.rules self.old.trial
             (drop self.old.console.source.taken self.old.console.source.lines)
             self.old.console.screen S
             × (is_open (run_from self.old.player self.old.rules S []) ≡ true) }
@@ -86,7 +86,7 @@ impl<'p, 'l> Stage<'p, 'l> {
         ensures rules { self.new.rules ≡ self.old.rules }
         ensures same_lines { self.new.console.source.lines ≡ self.old.console.source.lines }
         ensures goes { IfOk result (λ over. (S : State) →
-            StandsAt self.old.player self.old.rules self.old.trial
+            IsStageAt self.old.player self.old.rules self.old.trial
             (drop self.old.console.source.taken self.old.console.source.lines)
             self.old.console.screen S
             → GoesOn self.old.player self.old.rules S self.new.before
@@ -131,7 +131,7 @@ impl<'p, 'l> Stage<'p, 'l> {
         ensures rules { self.new.rules ≡ self.old.rules }
         ensures same_lines { self.new.console.source.lines ≡ self.old.console.source.lines }
         ensures plays { IfOk result (λ played. (given : ℕ) × ((S : State) →
-            StandsAtPlace self.old place.now S → ComesTo self.old.player self.old.rules S given
+            IsStageAtPlace self.old place.now S → ComesTo self.old.player self.old.rules S given
             plan.now.answers.items self.new.before self.old.console.source.lines
             self.new.console.screen played)) }
         ensures goes { IfOk result (λ played. played ≡ Played.Goes →

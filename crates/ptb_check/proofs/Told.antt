@@ -21,7 +21,7 @@ use Rattle.ptb_code.specs.Items.{items, items_within}
 use Rattle.ptb_code.specs.CommandLaws.{CommandLaws}
 use Rattle.ptb_code.specs.State.{Place, command_there, text_of, next_command, command_or_next}
 use Rattle.ptb_code.specs.State.{first_command, placed_at, place_after}
-use Rattle.ptb_check.specs.Laws.{IsAmong, IsMistakeOf, IsTold}
+use Rattle.ptb_check.specs.Laws.{IsAmong, IsMistakeOf, IsReported}
 use Rattle.ptb_check.specs.Mistakes.{Mistake, parts_fault, command_mistake, mistake_in, statement_mistakes, mistakes}
 use Rattle.ptb_check.proofs.Parts.{parts_tell}
 use Rattle.ptb_check.proofs.Readings.{Tells}
@@ -117,7 +117,7 @@ module _ (spelling : SpellingLaws) (laws : CommandLaws) where
       let begins = laws.begins (text_of p q.number) q.index c e in
       subst (λ d. Tells parts_fault d.parts) begins.3 (command_tells (text_of p q.number) begins.0)
 
-  pub command_told : (p : Statements) (q : Place) (c : Command) → command_there p q ≡ Some c → IsTold p q c
+  pub command_told : (p : Statements) (q : Place) (c : Command) → command_there p q ≡ Some c → IsReported p q c
   command_told p q c e = by_parts c.parts refl (there_tells p q c e)
     where
       told : (f : Fault) → command_mistake p c ≡ Some f → IsMistakeOf p q c
@@ -130,11 +130,11 @@ module _ (spelling : SpellingLaws) (laws : CommandLaws) where
       }
 
       by_fault : (parts : List Part) (o : Option Fault) → c.parts ≡ Malformed parts → parts_fault parts ≡ o → IsSome o
-          → IsTold p q c
+          → IsReported p q c
       by_fault parts (Some f) d h s = inr (told f (ap (λ r. command_mistake p (record c { parts = r })) d ∙ h))
       by_fault parts None d h s = cc s
 
-      by_parts : (r : Reading (List Part)) → c.parts ≡ r → Tells parts_fault r → IsTold p q c
+      by_parts : (r : Reading (List Part)) → c.parts ≡ r → Tells parts_fault r → IsReported p q c
       by_parts (Whole parts j) d h = inl (record { end = j; whole = d ∙ ap (λ x. Whole x j) (sym (ap item_of d)) })
       by_parts (Malformed parts) d h = by_fault parts (parts_fault parts) d refl h
 

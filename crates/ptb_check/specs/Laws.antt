@@ -1,5 +1,5 @@
 -- This file states that the mistakes of a program are all those that its runs can meet in its text.
---     IsTold p q c             the command c, whose place is q, is well formed, or its mistake is one of the program's
+--     IsReported p q c             the command c, whose place is q, is well formed, or its mistake is one of the program's
 --     FaultsAt p S             so it is with the command that is next in the state S
 --     CodeMistakeLaws          the code of a command has its mistake
 --     CheckLaws                so it is with the command at which a run ends with a fault
@@ -36,8 +36,8 @@ pub record IsWholeCommand (c : Command) : Type 0 where
   pub end : ℕ
   pub whole : c.parts ≡ Whole (item_of c.parts) end
 
-abbrev pub IsTold : Statements → Place → Command → Type 0
-IsTold p q c = IsWholeCommand c ⊎ IsMistakeOf p q c
+abbrev pub IsReported : Statements → Place → Command → Type 0
+IsReported p q c = IsWholeCommand c ⊎ IsMistakeOf p q c
 
 -- ---- the command at which a run ends
 
@@ -48,7 +48,7 @@ pub record FaultsAt (p : Statements) (S : State) : Type 0 where
   pub place : Place
   pub command : Command
   pub next : next_command p S.place ≡ Some (place, command)
-  pub told : IsTold p place command
+  pub told : IsReported p place command
 
 -- the mistake of a command is that of its code
 pub record CodeMistakeLaws : Type 0 where
@@ -59,7 +59,7 @@ pub record CodeMistakeLaws : Type 0 where
 pub record CheckLaws : Type 0 where
   -- each command of the program is whole, or its mistake is one of the program's
   pub commands :
-      (p : Statements) (q : Place) (c : Command) → command_there p q ≡ Some c → IsTold p q c
+      (p : Statements) (q : Place) (c : Command) → command_there p q ≡ Some c → IsReported p q c
   -- and so is the one at whose place a run ends with WHAT, HOW or SORRY
   pub runs :
       (p : StoredProgram) (input : List (List ℕ)) (rules : Rules) (a rest : Answers) (f : Finish) (kind : FaultKind)

@@ -15,7 +15,7 @@ use Rattle.ptb_answers.specs.Outcome.{Answers, Outcome, bound_of, bounds, bounds
 use Rattle.ptb_command.specs.Configuration.{Configuration}
 use Rattle.ptb_explore.specs.declared.copies.KeptCopy.{KeptCopy}
 use Rattle.ptb_explore.specs.Copies.{machine_of, steps_of, steps_or_none, IsCopyOf, IsSameCopy}
-use Rattle.ptb_explore.specs.Copies.{KeepsCopy, with_room, GoesBackTo, StandsAt, KeptFrom}
+use Rattle.ptb_explore.specs.Copies.{KeepsCopy, with_room, GoesBackTo, IsCopyAt, KeptFrom}
 use Rattle.ptb_explore.specs.Copies.{AreCopies, Agrees, kept_runs, newest_steps, kept_steps}
 use Rattle.ptb_explore.specs.Copies.{WentBack, last_steps_of, last_steps, AreBeginnings, AreTakenBy}
 use Rattle.ptb_explore.specs.Copies.{ArePlaces}
@@ -55,12 +55,12 @@ module _ (p : StoredProgram) (input : List (List ℕ)) (rules : Rules) where
   -- the same, and one more copy, of where play is then
   pub kept_push : (t u : Answers) (w v : List ℕ) (m n : ℕ) (ks : List KeptCopy) (k : KeptCopy)
       → KeptFrom p input rules t w m n ks → length t < k.taken → k.taken ≡ length (t ++ u) → k.shown ≡ length (w ++ v)
-      → StandsAt p input rules k (t ++ u) (w ++ v) → KeptFrom p input rules (t ++ u) (w ++ v) m n (ks ++ k ∷ [])
+      → IsCopyAt p input rules k (t ++ u) (w ++ v) → KeptFrom p input rules (t ++ u) (w ++ v) m n (ks ++ k ∷ [])
   kept_push t u w v m n [] k h l e f r =
       let a : take k.taken (t ++ u) ≡ t ++ u = ap (λ i. take i (t ++ u)) e ∙ take-length (t ++ u) in
       let b : take k.shown (w ++ v) ≡ w ++ v = ap (λ i. take i (w ++ v)) f ∙ take-length (w ++ v) in
-      let stands = subst (λ (T : Answers). StandsAt p input rules k T (take k.shown (w ++ v))) (sym a)
-      (subst (λ (W : List ℕ). StandsAt p input rules k (t ++ u) W) (sym b) r) in
+      let stands = subst (λ (T : Answers). IsCopyAt p input rules k T (take k.shown (w ++ v))) (sym a)
+      (subst (λ (W : List ℕ). IsCopyAt p input rules k (t ++ u) W) (sym b) r) in
       (omega (arith, l, h.0), omega (arith, f, h.1, length-append w v), stands, (omega (arith, e), omega (arith, f)))
   kept_push t u w v m n (j ∷ ks) k h l e f r =
       let b = kept_within t w j.taken j.shown ks h.3 in (
@@ -93,7 +93,7 @@ module _ (p : StoredProgram) (input : List (List ℕ)) (rules : Rules) where
   pub kept_newest : (t : Answers) (w : List ℕ) (m n : ℕ) (ks : List KeptCopy) (k : KeptCopy)
       → KeptFrom p input rules t w m n (ks ++ k ∷ [])
       → (k.taken ≤ length t) × (k.shown ≤ length w) × (m ≤ k.taken) × (n ≤ k.shown)
-      × StandsAt p input rules k (take k.taken t) (take k.shown w)
+      × IsCopyAt p input rules k (take k.taken t) (take k.shown w)
   kept_newest t w m n [] k h = (h.3.0, h.3.1, omega (arith, h.0), h.1, h.2)
   kept_newest t w m n (j ∷ ks) k h = let r = kept_newest t w j.taken j.shown ks k h.3 in
       (r.0, r.1, omega (arith, h.0, r.2), omega (arith, h.1, r.3), r.4)
@@ -120,7 +120,7 @@ module _ (p : StoredProgram) (input : List (List ℕ)) (rules : Rules) where
   pub kept_more : (t u : Answers) (w v : List ℕ) (before taken shown lines : ℕ) (m : Configuration)
       (old new : List KeptCopy)
       → AreCopies p input rules t w old → before ≡ length t → taken ≡ length (t ++ u) → shown ≡ length (w ++ v)
-      → ((k : KeptCopy) → before < taken → IsCopyOf m taken shown lines k → StandsAt p input rules k (t ++ u) (w ++ v))
+      → ((k : KeptCopy) → before < taken → IsCopyOf m taken shown lines k → IsCopyAt p input rules k (t ++ u) (w ++ v))
       → KeepsCopy before m taken shown lines old new → AreCopies p input rules (t ++ u) (w ++ v) new
   kept_more t u w v before taken shown lines m old new h b e f stands (inl same) =
       rw same (kept_longer t u w v 0 0 old h)
@@ -135,7 +135,7 @@ module _ (p : StoredProgram) (input : List (List ℕ)) (rules : Rules) where
   kept_none t w ks e = rw e (omega arith, omega arith)
 
   -- a copy's machine is where it is
-  pub stands_machine : (k : KeptCopy) (t : Answers) (w : List ℕ) (m : Configuration) (s : StandsAt p input rules k t w)
+  pub stands_machine : (k : KeptCopy) (t : Answers) (w : List ℕ) (m : Configuration) (s : IsCopyAt p input rules k t w)
       → machine_of k ≡ Some m → s.machine ≡ m
   stands_machine k t w m s h =
       let e : Some s.machine ≡ Some m = sym s.machine_is ∙ h in
@@ -166,8 +166,8 @@ module _ (p : StoredProgram) (input : List (List ℕ)) (rules : Rules) where
       )
 
   -- a copy of a copy is where it does
-  same_stands : (k j : KeptCopy) (t : Answers) (w : List ℕ) → IsSameCopy k j → StandsAt p input rules k t w
-      → StandsAt p input rules j t w
+  same_stands : (k j : KeptCopy) (t : Answers) (w : List ℕ) → IsSameCopy k j → IsCopyAt p input rules k t w
+      → IsCopyAt p input rules j t w
   same_stands k j t w same s = record {
     machine = s.machine;
     machine_is = same.machine ∙ s.machine_is;
@@ -263,7 +263,7 @@ module _ (p : StoredProgram) (input : List (List ℕ)) (rules : Rules) where
     pub few : j.taken ≤ most
     pub taken : j.taken ≤ length t
     pub shown : j.shown ≤ length w
-    pub stands : StandsAt p input rules j (take j.taken t) (take j.shown w)
+    pub stands : IsCopyAt p input rules j (take j.taken t) (take j.shown w)
     pub copies : AreCopies p input rules (take j.taken t) (take j.shown w) left
     pub steps : last_steps left ≡ steps_of j
 
@@ -278,9 +278,9 @@ module _ (p : StoredProgram) (input : List (List ℕ)) (rules : Rules) where
         few = rw same.taken_is l;
         taken = rw same.taken_is newest.0;
         shown = rw same.shown_is newest.1;
-        stands = subst (λ (T : Answers). StandsAt p input rules j T (take j.shown w))
+        stands = subst (λ (T : Answers). IsCopyAt p input rules j T (take j.shown w))
             (ap (λ n. take n t) (sym same.taken_is))
-            (subst (λ (W : List ℕ). StandsAt p input rules j (take k.taken t) W)
+            (subst (λ (W : List ℕ). IsCopyAt p input rules j (take k.taken t) W)
             (ap (λ n. take n w) (sym same.shown_is))
             (same_stands p input rules k j (take k.taken t) (take k.shown w) same newest.4));
         copies = rw (same.taken_is, same.shown_is, is) cut;

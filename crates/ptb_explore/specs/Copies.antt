@@ -105,7 +105,7 @@ module _ (p : StoredProgram) (input : List (List ℕ)) (rules : Rules) where
     pub no_sooner : IsRun (play p input (limited rules (steps - 1))) answers → ⊥
 
   -- after the answers t, with the bytes w shown, play is where the copy does
-  pub record StandsAt (k : KeptCopy) (t : Answers) (w : List ℕ) : Type 0 where
+  pub record IsCopyAt (k : KeptCopy) (t : Answers) (w : List ℕ) : Type 0 where
     pub machine : Configuration
     pub machine_is : machine_of k ≡ Some machine
     pub unspent : machine.spent ≡ false
@@ -116,7 +116,7 @@ module _ (p : StoredProgram) (input : List (List ℕ)) (rules : Rules) where
   -- each took a prefix of the answers, longer than that of the copy before it, and showed a prefix of the bytes
   abbrev pub KeptFrom : Answers → List ℕ → ℕ → ℕ → List KeptCopy → Type 0
   KeptFrom t w m n [] = (m ≤ length t) × (n ≤ length w)
-  KeptFrom t w m n (k ∷ ks) = (m < k.taken) × (n ≤ k.shown) × StandsAt k (take k.taken t) (take k.shown w)
+  KeptFrom t w m n (k ∷ ks) = (m < k.taken) × (n ≤ k.shown) × IsCopyAt k (take k.taken t) (take k.shown w)
       × KeptFrom t w k.taken k.shown ks
 
   -- each took an answer

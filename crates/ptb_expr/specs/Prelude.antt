@@ -2,7 +2,7 @@
 pub use Rattle.std.specs.Prelude.{List, ℕ, length, option_map}
 pub use Rattle.ptb_answers.specs.Outcome.{is_answer}
 pub use Rattle.ptb_text.specs.CursorState.{bytes_left}
-pub use Rattle.ptb_text.specs.Finding.{LiesAhead, StandsNext, past_byte}
+pub use Rattle.ptb_text.specs.Finding.{LiesAhead, IsNextToken, past_byte}
 pub use Rattle.ptb_text.specs.Words.{word_at, IsFunction, letter_at, next_byte_at, token_at}
 pub use Rattle.ptb_text.specs.declared.word.Table.TheVariants.{Functions}
 pub use Rattle.ptb_expr.specs.ReadSteps.{ReadsSteps, FailsSteps, operand_steps}

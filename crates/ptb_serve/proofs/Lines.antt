@@ -18,7 +18,7 @@ use Rattle.ptb_machine.specs.PlainRuns.{HasLine}
 use Rattle.ptb_machine.specs.Streams.{Reads}
 use Rattle.ptb_serve.specs.declared.note.Note.{Note}
 use Rattle.ptb_serve.specs.declared.note.Note.TheVariants as notes
-use Rattle.ptb_serve.specs.Loaded.{IsRunStatus, TellsLine, line_in_mode, end_line}
+use Rattle.ptb_serve.specs.Loaded.{IsRunStatus, ReportsLine, line_in_mode, end_line}
 use Rattle.ptb_serve.specs.Replies.{program_of_text}
 use Rattle.ptb_serve.specs.ServedRequests.{IsInput, outcome_of}
 use Rattle.ptb_serve.specs.Statuses.{note_status}
@@ -73,7 +73,7 @@ module _ {R : Type 0} (mode : Mode) (request : Request) (p : StoredProgram) (ans
     ≡ line_in_mode mode p lines request.rules) where
   pub run_line : (ended : Result RunEnd RunFault) (result : Result ℕ Note) → IsRunStatus (ending_alone ended) result
       → IfOk ended (HasLine p request.rules answers input)
-      → TellsLine mode request p input.bytes result (end_line ended)
+      → ReportsLine mode request p input.bytes result (end_line ended)
   run_line (Ok end) result h line = record {
     at_limit = λ e c is.
         at_known (λ d. end.line ≡ stopping_line p (input_lines d) request.rules (answers (input_lines d))) c
@@ -90,7 +90,7 @@ module _ {R : Type 0} (mode : Mode) (request : Request) (p : StoredProgram) (ans
 pub none_stopped : (mode : Mode) (request : Request) (p : StoredProgram) (known : Option (List ℕ))
     (result : Result ℕ Note)
     → ((lines : List (List ℕ)) → line_in_mode mode p lines request.rules ≡ None)
-    → TellsLine mode request p known result None
+    → ReportsLine mode request p known result None
 none_stopped mode request p known result none =
     record { at_limit = λ e c is. sym (none (input_lines c)); elsewhere = λ _. refl }
 

@@ -27,7 +27,7 @@ use Rattle.ptb_explore.specs.declared.fault.OpenFault.{OpenFault}
 use Rattle.ptb_explore.specs.declared.fault.OpenFault.TheVariants.{Memory, NoBeginning, NotARun}
 use Rattle.ptb_serve.specs.declared.list_mismatch.ListMismatch.TheVariants.{Under, After}
 use Rattle.ptb_serve.specs.ListMismatches.{IsUnbegun, mismatch_note, unbegun_attempt}
-use Rattle.ptb_serve.specs.Loaded.{IsServedOn, ServesProgram, TellsFailures}
+use Rattle.ptb_serve.specs.Loaded.{IsServedOn, ServesProgram, ReportsFailures}
 use Rattle.ptb_serve.specs.Replies.{answers_under, front_note}
 use Rattle.ptb_serve.specs.ServedRequests.{ListsFewerOf, device_note, reports_note}
 use Rattle.ptb_serve.proofs.Listed.{front_note-loaded, front_note-other, front_note-silent, lists_fewer}
@@ -87,7 +87,7 @@ module _ (request : Request) (p : StoredProgram) (memory : p.memory ≡ request.
       pub serves : (known left : Option (List ℕ)) → IfSome known (λ c. input ≡ input_lines c)
           → ServesProgram (modes.All under after first form) request p known left old new result
       pub read : IsErrOf result notes.InputUnread → ⊥
-      pub failures : TellsFailures broke breaks result
+      pub failures : ReportsFailures broke breaks result
 
     -- no listing begins so
     unbegun_noted : (held : Option (List ℕ)) (broke : ℕ) (note : Note)

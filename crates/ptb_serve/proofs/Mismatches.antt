@@ -22,7 +22,7 @@ use Rattle.ptb_serve.specs.declared.note.Note.TheVariants as notes
 use Rattle.ptb_command.specs.declared.ending.Ending.{Ending}
 use Rattle.ptb_machine.specs.declared.fault.RunFault.{RunFault}
 use Rattle.ptb_machine.specs.declared.fault.RunFault.TheVariants as faults
-use Rattle.ptb_serve.specs.Loaded.{IsRunStatus, RefusesListIn, TellsMismatch}
+use Rattle.ptb_serve.specs.Loaded.{IsRunStatus, RefusesListIn, ReportsMismatch}
 use Rattle.ptb_serve.specs.ListMismatches.{IsMismatchIn, IsMismatchOf, IsListRefused, IsUnbegun}
 use Rattle.ptb_serve.specs.ListMismatches.{mismatch_note, refused_attempt, unbegun_attempt}
 use Rattle.ptb_serve.specs.Replies.{program_of_text}
@@ -33,7 +33,7 @@ use Rattle.ptb_serve.proofs.Served.{at_known, outcome_of-err, outcome_of-note, p
 
 -- nothing is said where no list is refused
 pub none_told : (mode : Mode) (request : Request) (p : StoredProgram) (known : Option (List ℕ)) (result : Result ℕ Note)
-    → (RefusesListIn result → ⊥) → TellsMismatch mode request p known result None
+    → (RefusesListIn result → ⊥) → ReportsMismatch mode request p known result None
 none_told mode request p known result other = record { said = λ h. absurd (other h); noted = tt; fits = λ _ _. tt }
 
 -- as with a run that is served or not,
@@ -83,7 +83,7 @@ refused_told : (request : Request) (p : StoredProgram) (known : Option (List ℕ
     → IfSome known (λ c. input ≡ input_lines c)
     → (under after : Option (List Marked)) (first : Option ℕ) (form : Form) (m : ListMismatch)
     → IsListRefused (play p input request.rules) under after m
-    → TellsMismatch (modes.All under after first form) request p known (refused_attempt m).served
+    → ReportsMismatch (modes.All under after first form) request p known (refused_attempt m).served
     (refused_attempt m).mismatch
 refused_told request p known input lines under after first form m x = record {
   said = λ _. refl;
@@ -98,7 +98,7 @@ pub unbegun_told : (request : Request) (p : StoredProgram) (known : Option (List
     → IfSome known (λ c. input ≡ input_lines c)
     → (under after : Option (List Marked)) (first : Option ℕ) (form : Form) (why : OpenFault)
     → IsUnbegun (play p input request.rules) under after why
-    → TellsMismatch (modes.All under after first form) request p known (unbegun_attempt why).served
+    → ReportsMismatch (modes.All under after first form) request p known (unbegun_attempt why).served
     (unbegun_attempt why).mismatch
 unbegun_told request p known input lines under after first form Memory x =
     none_told (modes.All under after first form) request p known (Err notes.OutOfMemory) memory_refuses_none

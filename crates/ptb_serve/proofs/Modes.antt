@@ -19,7 +19,7 @@ use Rattle.ptb_machine.specs.declared.run_end.RunEnd.{RunEnd}
 use Rattle.ptb_machine.specs.PlainRuns.{HasLine, WantsMemory}
 use Rattle.ptb_machine.specs.Streams.{Reads, Writes}
 use Rattle.ptb_serve.specs.Loaded.{IsServed, IsServedIn, IsServedUnread, IsRunStatus, ReadsInput, ServesProgram}
-use Rattle.ptb_serve.specs.Loaded.{TellsFailures, TellsLine, TellsMismatch, line_in_mode, end_line}
+use Rattle.ptb_serve.specs.Loaded.{ReportsFailures, ReportsLine, ReportsMismatch, line_in_mode, end_line}
 use Rattle.ptb_machine.specs.SeededRuns.{seeded_answers}
 use Rattle.ptb_serve.specs.ServedRequests.{IsPlainRun, NeedsInput, NeedsWholeInput}
 use Rattle.ptb_serve.proofs.Lines.{none_stopped, run_line}
@@ -81,8 +81,8 @@ module _ (request : Request) (p : StoredProgram) where
         → ServesProgram (modes.All under after first form) request p input.bytes input.left out.before out.after result
         → ReadsInput (modes.All under after first form) input.bytes input.left input.failed input.fails input.gave
         input.gives result
-        → TellsFailures out.failed out.fails result
-        → TellsMismatch (modes.All under after first form) request p input.bytes result mismatch
+        → ReportsFailures out.failed out.fails result
+        → ReportsMismatch (modes.All under after first form) request p input.bytes result mismatch
         → IsServedIn request p input out result mismatch None mode
     served_all result mismatch mode under after first form is serves reads tells said =
         subst (IsServedIn request p input out result mismatch None) (sym is)
@@ -98,7 +98,7 @@ module _ (request : Request) (p : StoredProgram) where
     -- what is served in a mode by another name, where no list and no line are spoken of
     served_alone : (result : Result ℕ Note) (mode other : Mode) → mode ≡ other → IsServed other request p input out
         result
-        → TellsLine other request p input.bytes result None → NeedsInput other
+        → ReportsLine other request p input.bytes result None → NeedsInput other
         → IsServedIn request p input out result None None mode
     served_alone result mode other is x line needs =
         subst (IsServedIn request p input out result None None) (sym is)

@@ -18,7 +18,7 @@ use Rattle.ptb_options.specs.declared.request.Request.{Request}
 use Rattle.ptb_serve.specs.declared.note.Note.{Note}
 use Rattle.ptb_serve.specs.declared.note.Note.TheVariants as notes
 use Rattle.ptb_serve.specs.declared.service.Outcome.{Outcome}
-use Rattle.ptb_serve.specs.Loaded.{IsRunStatus, ReadsInput, ServesProgram, TellsFailures}
+use Rattle.ptb_serve.specs.Loaded.{IsRunStatus, ReadsInput, ServesProgram, ReportsFailures}
 use Rattle.ptb_machine.specs.PlainRuns.{PlaysWith, ReadsLines, WantsMemory, ending_wanted, lines_come, lines_taken}
 use Rattle.ptb_machine.specs.Streams.{Reads, Writes}
 use Rattle.ptb_serve.specs.Replies.{Reply, program_reply, program_reply_in_mode, run_reply}
@@ -47,18 +47,18 @@ module _ {R : Type 0} (request : Request) (p : StoredProgram) (answers : StoredP
 
   -- whether the writer failed
   pub run_failures : (r : Result Ending RunFault) (result : Result ℕ Note) → IsRunStatus r result → RanBy r
-      → TellsFailures out.failed out.fails result
+      → ReportsFailures out.failed out.fails result
   run_failures (Ok e) result h ran =
-      subst (TellsFailures out.failed out.fails) (sym h)
+      subst (ReportsFailures out.failed out.fails) (sym h)
       (record { unwritten = λ x. absurd cc; written = λ _. ran.plays.unfailed (λ x. absurd cc) })
   run_failures (Err faults.Memory) result h ran =
-      subst (TellsFailures out.failed out.fails) (sym h)
+      subst (ReportsFailures out.failed out.fails) (sym h)
       (record { unwritten = λ x. absurd cc; written = λ _. ran.plays.unfailed (λ x. absurd cc) })
   run_failures (Err faults.Read) result h ran =
-      subst (TellsFailures out.failed out.fails) (sym h)
+      subst (ReportsFailures out.failed out.fails) (sym h)
       (record { unwritten = λ x. absurd cc; written = λ _. ran.plays.unfailed (λ x. absurd cc) })
   run_failures (Err faults.Write) result h ran =
-      subst (TellsFailures out.failed out.fails) (sym h)
+      subst (ReportsFailures out.failed out.fails) (sym h)
       (record { unwritten = λ _. ran.plays.failed refl; written = λ x. absurd (x refl) })
   run_failures (Err faults.Spent) result h ran = absurd h
 

@@ -16,7 +16,7 @@ use Rattle.ptb_serve.specs.declared.list_mismatch.ListMismatch.{ListMismatch}
 use Rattle.ptb_serve.specs.declared.note.Note.{Note}
 use Rattle.ptb_serve.specs.declared.note.Note.TheVariants as notes
 use Rattle.ptb_serve.specs.declared.service.Outcome.{Outcome}
-use Rattle.ptb_serve.specs.Loaded.{ServesProgram, ReadsInput, TellsFailures, TellsLine, TellsMismatch, line_in_mode}
+use Rattle.ptb_serve.specs.Loaded.{ServesProgram, ReadsInput, ReportsFailures, ReportsLine, ReportsMismatch, line_in_mode}
 use Rattle.ptb_serve.specs.ListMismatches.{IsMismatchOf}
 use Rattle.ptb_serve.specs.Promises.{Served, ReadsOnlyWhatIsAsked, FailsLoudly}
 use Rattle.ptb_serve.specs.Replies.{listing_reply, program_of_text, program_reply_in_mode, reply_in_mode}
@@ -57,9 +57,9 @@ module _ {P R : Type 0} (request : Request) (text : Reads P) (consumed : Consume
       → IfSome text.bytes (λ b. IsLoaded request.memory b p.lines) → text.fails ≡ text.failed
       → ServesProgram request.mode request p input.bytes input.left out.before out.after result
       → ReadsInput request.mode input.bytes input.left input.failed input.fails input.gave input.gives result
-      → TellsFailures out.failed out.fails result
-      → TellsMismatch request.mode request p input.bytes result mismatch
-      → TellsLine request.mode request p input.bytes result line
+      → ReportsFailures out.failed out.fails result
+      → ReportsMismatch request.mode request p input.bytes result mismatch
+      → ReportsLine request.mode request p input.bytes result line
       → ((NeedsInput request.mode → ⊥) → input.new ≡ input.old)
       → Told request text input out outcome
   told_loaded input out outcome result mismatch line p is memory loaded unfailed serves reads tells said stopped kept =

@@ -36,7 +36,7 @@ use Rattle.ptb_serve.specs.ServedRequests.{outcome_of, EndsUnread, IsCheck, IsPl
 use Rattle.ptb_serve.specs.ServedRequests.{outcome_wanted, wanted_by, load_note, AsksForMore, IsUnloaded}
 use Rattle.ptb_serve.specs.ServedRequests.{ListsFewerOf, ReadsForRun, Replies, SamplesFewerOf, Serves}
 use Rattle.ptb_serve.specs.ServedRequests.{SilentBy, SilentWithoutMemory, SplitsFewerOf, StopsForMemory}
-use Rattle.ptb_serve.specs.ServedRequests.{TellsLength, TellsRefusal, load_fault_note, seeded_taken}
+use Rattle.ptb_serve.specs.ServedRequests.{ReportsLength, ReportsRefusal, load_fault_note, seeded_taken}
 
 -- ---- the program of a text
 
@@ -237,7 +237,7 @@ load_note-silent mode held e = by_fault e.1 where
 pub load_note-refusal : (memory : ℕ) (known : Option (List ℕ)) (e : ℕ × LoadFault)
     → (IsLineFault e.1 → IfSome known (λ b. IsRefusedAt memory b e))
     → (e.1 ≡ loads.TooLong → (e.0 ≡ 0) × IfSome known (λ b. program_limit < length b))
-    → TellsRefusal memory known (Some (load_note e))
+    → ReportsRefusal memory known (Some (load_note e))
 load_note-refusal memory known e refused too_long = by_fault e.1 refused too_long where
   of_line : (fault : LoadFault) (known : Option (List ℕ)) → IfSome known (λ b. IsRefusedAt memory b (e.0, fault))
       → IfSome known (λ b. program_of_text memory b ≡ Err (e.0, fault))
@@ -251,7 +251,7 @@ load_note-refusal memory known e refused too_long = by_fault e.1 refused too_lon
 
   by_fault : (fault : LoadFault) → (IsLineFault fault → IfSome known (λ b. IsRefusedAt memory b (e.0, fault)))
       → (fault ≡ loads.TooLong → (e.0 ≡ 0) × IfSome known (λ b. program_limit < length b))
-      → TellsRefusal memory known (Some (load_note (e.0, fault)))
+      → ReportsRefusal memory known (Some (load_note (e.0, fault)))
   by_fault loads.NoNumber h l = of_line loads.NoNumber known (h tt)
   by_fault loads.NumberTooBig h l = of_line loads.NumberTooBig known (h tt)
   by_fault loads.TextTooLong h l = of_line loads.TextTooLong known (h tt)
@@ -263,10 +263,10 @@ load_note-refusal memory known e refused too_long = by_fault e.1 refused too_lon
 
 pub load_note-length : (old new : ℕ) (e : ℕ × LoadFault)
     → (e.1 ≡ loads.TooLong → GivesExactly old new (program_limit + 1))
-    → TellsLength old new (Some (load_note e))
+    → ReportsLength old new (Some (load_note e))
 load_note-length old new e exactly = by_fault e.1 exactly where
   by_fault : (fault : LoadFault) → (fault ≡ loads.TooLong → GivesExactly old new (program_limit + 1))
-      → TellsLength old new (Some (load_note (e.0, fault)))
+      → ReportsLength old new (Some (load_note (e.0, fault)))
   by_fault loads.NoNumber h = tt
   by_fault loads.NumberTooBig h = tt
   by_fault loads.TextTooLong h = tt
@@ -280,7 +280,7 @@ load_note-length old new e exactly = by_fault e.1 exactly where
 
 -- of a text that was loaded no note is a refusal
 loaded_facts : (memory : ℕ) (known : Option (List ℕ)) (old new : ℕ) (note : Option Note) → (IsUnloaded note → ⊥)
-    → TellsRefusal memory known note × TellsLength old new note
+    → ReportsRefusal memory known note × ReportsLength old new note
 loaded_facts memory known old new None h = (tt, tt)
 loaded_facts memory known old new (Some (notes.Load line fault)) h = absurd (h tt)
 loaded_facts memory known old new (Some notes.ProgramUnread) h = (tt, tt)
@@ -291,11 +291,11 @@ loaded_facts memory known old new (Some notes.OutOfMemory) h = (tt, tt)
 loaded_facts memory known old new (Some notes.Unwritten) h = (tt, tt)
 
 pub loaded_refusal : (memory : ℕ) (known : Option (List ℕ)) (note : Option Note) → (IsUnloaded note → ⊥)
-    → TellsRefusal memory known note
+    → ReportsRefusal memory known note
 loaded_refusal memory known note h = (loaded_facts memory known 0 0 note h).0
 
 -- nor does one say how long the text is
-pub loaded_length : (old new : ℕ) (note : Option Note) → (IsUnloaded note → ⊥) → TellsLength old new note
+pub loaded_length : (old new : ℕ) (note : Option Note) → (IsUnloaded note → ⊥) → ReportsLength old new note
 loaded_length old new note h = (loaded_facts 0 None old new note h).1
 
 -- a text that was loaded isn't refused

@@ -2,16 +2,16 @@
 --     IsRunStatus ended result    the status of a run that ended, or the note that says why it did not
 --     ServesProgram mode ..       what is written, and the status or the note
 --     ReadsInput mode ..          what is read of the input
---     TellsFailures old new result    that the writer failed is noted, and is noted of no other
+--     ReportsFailures old new result    that the writer failed is noted, and is noted of no other
 --     RefusesListIn result        a list is refused
 --     IsServedIn ..               all that is due of a program that was loaded, by its mode
 --     IsServed mode ..            all of these of a mode that begins with no list
 --     IsServedUnread mode ..      the same of a mode that leaves the input alone
 --     IsServedOn mode ..          the same of lines that were read
---     TellsMismatch mode ..       what is said of a list accompanies its note, and is true; and each such note has it
+--     ReportsMismatch mode ..       what is said of a list accompanies its note, and is true; and each such note has it
 --     end_line ended               the line at which the limit stopped a run
 --     line_in_mode mode p lines rules     the same of the play on these lines
---     TellsLine mode ..           where the limit stopped a run, the line is that of the play
+--     ReportsLine mode ..           where the limit stopped a run, the line is that of the play
 use Rattle.std.specs.Prelude.{◌≡◌, ◌⊎◌, ◌+◌, ◌≤◌, ℕ, List, length, Option, None, Result, Ok, Err}
 use Rattle.std.specs.Prelude.{IfOk, IfSome, IsErrOf, IsSome, OnOk}
 use Rattle.ptb_text.specs.Device.{GivesAtMost, GivesExactly, HasFailed}
@@ -83,14 +83,14 @@ pub record ReadsInput (mode : Mode) (known left : Option (List ℕ)) (failed fai
   pub read : (IsErrOf result notes.InputUnread → ⊥) → fails ≡ failed
   pub unneeded : (NeedsInput mode → ⊥) → IsErrOf result notes.InputUnread → ⊥
 
-pub record TellsFailures (old new : ℕ) (result : Result ℕ Note) : Type 0 where
+pub record ReportsFailures (old new : ℕ) (result : Result ℕ Note) : Type 0 where
   pub unwritten : IsErrOf result notes.Unwritten → HasFailed old new
   pub written : (IsErrOf result notes.Unwritten → ⊥) → new ≡ old
 
 abbrev pub RefusesListIn : Result ℕ Note → Type 0
 RefusesListIn result = IsErrOf result notes.NoBeginning ⊎ IsErrOf result notes.NoRun
 
-pub record TellsMismatch (mode : Mode) (request : Request) (p : StoredProgram) (known : Option (List ℕ))
+pub record ReportsMismatch (mode : Mode) (request : Request) (p : StoredProgram) (known : Option (List ℕ))
     (result : Result ℕ Note) (mismatch : Option ListMismatch) : Type 0 where
   pub said : RefusesListIn result → IsSome mismatch
   pub noted : IfSome mismatch (λ m. IsErrOf result (mismatch_note m))
@@ -110,7 +110,7 @@ line_in_mode modes.List p lines rules = None
 line_in_mode modes.Check p lines rules = None
 line_in_mode modes.Chances p lines rules = None
 
-pub record TellsLine (mode : Mode) (request : Request) (p : StoredProgram) (known : Option (List ℕ))
+pub record ReportsLine (mode : Mode) (request : Request) (p : StoredProgram) (known : Option (List ℕ))
     (result : Result ℕ Note) (line : Option ℕ) : Type 0 where
   pub at_limit : result ≡ Ok (status endings.Limit) → (c : List ℕ) → IsInput mode known c
       → line ≡ line_in_mode mode p (input_lines c) request.rules
@@ -122,9 +122,9 @@ pub record IsServedIn {R : Type 0} (request : Request) (p : StoredProgram) (inpu
     (result : Result ℕ Note) (found : Option ListMismatch) (reached : Option ℕ) (mode : Mode) : Type 0 where
   pub serves : ServesProgram mode request p input.bytes input.left out.before out.after result
   pub reads : ReadsInput mode input.bytes input.left input.failed input.fails input.gave input.gives result
-  pub failures : TellsFailures out.failed out.fails result
-  pub mismatch : TellsMismatch mode request p input.bytes result found
-  pub line : TellsLine mode request p input.bytes result reached
+  pub failures : ReportsFailures out.failed out.fails result
+  pub mismatch : ReportsMismatch mode request p input.bytes result found
+  pub line : ReportsLine mode request p input.bytes result reached
   pub input_kept : (NeedsInput mode → ⊥) → input.new ≡ input.old
 
 -- all that is due of a mode that begins with no list
@@ -132,7 +132,7 @@ pub record IsServed {R : Type 0} (mode : Mode) (request : Request) (p : StoredPr
     (output : Writes) (result : Result ℕ Note) : Type 0 where
   pub serves : ServesProgram mode request p input.bytes input.left output.before output.after result
   pub reads : ReadsInput mode input.bytes input.left input.failed input.fails input.gave input.gives result
-  pub failures : TellsFailures output.failed output.fails result
+  pub failures : ReportsFailures output.failed output.fails result
   pub no_list : RefusesListIn result → ⊥
 
 -- the same of the lines of an input that was read
@@ -141,7 +141,7 @@ pub record IsServedOn (mode : Mode) (request : Request) (p : StoredProgram) (lin
   pub serves : (known left : Option (List ℕ)) → IfSome known (λ c. lines ≡ input_lines c)
       → ServesProgram mode request p known left output.before output.after result
   pub read : IsErrOf result notes.InputUnread → ⊥
-  pub failures : TellsFailures output.failed output.fails result
+  pub failures : ReportsFailures output.failed output.fails result
   pub no_list : RefusesListIn result → ⊥
 
 -- the same of a mode that leaves the input alone, whose request is not looked at
@@ -149,5 +149,5 @@ pub record IsServedUnread (mode : Mode) (p : StoredProgram) (output : Writes) (r
   pub serves : (request : Request) → p.memory ≡ request.memory → (known : Option (List ℕ))
       → ServesProgram mode request p known known output.before output.after result
   pub read : IsErrOf result notes.InputUnread → ⊥
-  pub failures : TellsFailures output.failed output.fails result
+  pub failures : ReportsFailures output.failed output.fails result
   pub no_list : RefusesListIn result → ⊥

@@ -17,7 +17,7 @@ use Rattle.ptb_serve.specs.Loaded.{line_in_mode}
 use Rattle.ptb_serve.specs.Replies.{program_of_text, refusal, reply_to}
 use Rattle.ptb_serve.specs.ServedRequests.{IsCheck, IsInput, IsPlainRun, IsUnloaded, NeedsInput}
 use Rattle.ptb_serve.specs.ServedRequests.{NeedsWholeInput, ReadsForRun, Serves, ServesUnread, SilentBy}
-use Rattle.ptb_serve.specs.ServedRequests.{StopsForMemory, TellsLength, TellsRefusal}
+use Rattle.ptb_serve.specs.ServedRequests.{StopsForMemory, ReportsLength, ReportsRefusal}
 use Rattle.ptb_serve.specs.Statuses.{note_status}
 
 module _ {P R : Type 0} (request : Request) (text : Reads P) (input : Reads R) where
@@ -31,7 +31,7 @@ module _ {P R : Type 0} (request : Request) (text : Reads P) (input : Reads R) w
         (λ b. IfErr (program_of_text request.memory b)
         (λ e. Serves (refusal (notes.Load e.0 e.1)) out.before out.after outcome))
     -- A note of a refusal has the line and the fault of the text's first refusal.
-    pub refused_at : TellsRefusal request.memory text.bytes outcome.note
+    pub refused_at : ReportsRefusal request.memory text.bytes outcome.note
     -- Each note has its own status, 64 or more. Without a note the status is at most 7,
     pub status : MatchOption outcome.note (outcome.status ≤ 7) (λ note. outcome.status ≡ note_status note)
     -- and it is 0 where the request is no plain run and no check,
@@ -98,7 +98,7 @@ pub record FailsLoudly {P R : Type 0} (text : Reads P) (input : Reads R) (out : 
   pub text_failed : outcome.note ≡ Some notes.ProgramUnread → HasFailed text.failed text.fails
   pub text_unfailed : ¬ (outcome.note ≡ Some notes.ProgramUnread) → text.fails ≡ text.failed
   -- It is noted as too long only where 1,048,577 bytes came.
-  pub text_too_long : TellsLength text.gave text.gives outcome.note
+  pub text_too_long : ReportsLength text.gave text.gives outcome.note
   -- The input is noted as unread where its reader failed, and only there or where it has more than 16,777,216 bytes
   pub input_failed : outcome.note ≡ Some notes.InputUnread → IsUnreadable input.bytes input.failed input.fails
   pub input_unfailed : ¬ (outcome.note ≡ Some notes.InputUnread) → input.fails ≡ input.failed

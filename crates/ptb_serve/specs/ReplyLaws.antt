@@ -11,7 +11,7 @@
 --                                      replies to their shares are the reply to all runs
 --     RunReplies play most reply       what the replies are where a program is run, once or with all answers
 --     ChecksText p reply               the reply to a check of the program p
---     TellsChances play most reply     the reply to `--chances` is the table of all results that runs have
+--     ReportsChances play most reply     the reply to `--chances` is the table of all results that runs have
 --     ReplyLaws                        what a reply is for every program text and every input
 use Rattle.std.specs.Prelude.{◌≡◌, true, ℕ, suc, ◌<◌, List, [], ◌∷◌, ◌++◌, length, take, Option}
 use Rattle.std.specs.Prelude.{Some, None, Ok, Err, ◌↔◌, Contains, ℤ}
@@ -86,7 +86,7 @@ pub record SamplesBySeed (seed : ℕ) (play : Answers → Outcome Finish (List �
 
 -- The results of all runs, each with its exact chance and the number of its runs. A result is an ending and the last
 -- line that was shown.
-pub record TellsChances (play : Answers → Outcome Finish (List ℕ)) (most : ℕ) (reply : Reply) : Type 0 where
+pub record ReportsChances (play : Answers → Outcome Finish (List ℕ)) (most : ℕ) (reply : Reply) : Type 0 where
   -- the table of the tree is written, whose members are the runs, and the status is 0
   pub rows : reply ≡ reply_with (table_text (table play (tree play most)))
   -- the results rise, their chances add up to 1, and their numbers of runs to that of all runs
@@ -184,7 +184,7 @@ pub record RunReplies (play : Answers → Outcome Finish (List ℕ)) (most : ℕ
   -- a sample is the reports of as many runs as are asked for, which the seed draws one after the other
   pub sampled : (seed runs : ℕ) → SamplesBySeed seed play runs (λ form. reply (modes.Sample seed runs form))
   -- the table of chances has each result that a run has
-  pub chances : TellsChances play most (reply modes.Chances)
+  pub chances : ReportsChances play most (reply modes.Chances)
 
 -- The reply to a check is each mistake in the text of the program, as a run reports it on a fresh line, and the
 -- status shows whether there is one.

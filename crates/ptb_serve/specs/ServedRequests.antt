@@ -5,8 +5,8 @@
 --     reports_note e                    the note of reports that are not all written
 --     Serves reply old new outcome      the reply is given, or it is broken off
 --     IsUnloaded note                   the program was not read, or its text is refused
---     TellsRefusal memory known note    a text is noted as refused as it is refused, where it is known
---     TellsLength old new note          a text is noted as too long where one byte too many was given
+--     ReportsRefusal memory known note    a text is noted as refused as it is refused, where it is known
+--     ReportsLength old new note          a text is noted as too long where one byte too many was given
 --     SilentBy mode note old new        nothing was written, unless what was due was broken off
 --     WritesFewer report due old new    the reports of the first of these runs were written, and fewer than all
 --     StopsForMemory mode ..            what was written of a listing, of a sample, or of a run by a seed, where memory
@@ -254,17 +254,17 @@ IsUnloaded (Some notes.Unwritten) = ⊥
 IsUnloaded None = ⊥
 
 -- the line and the fault that are noted are those of the first refusal
-abbrev pub TellsRefusal : ℕ → Option (List ℕ) → Option Note → Type 0
-TellsRefusal memory known (Some (notes.Load line fault)) =
+abbrev pub ReportsRefusal : ℕ → Option (List ℕ) → Option Note → Type 0
+ReportsRefusal memory known (Some (notes.Load line fault)) =
     IfSome known (λ b. program_of_text memory b ≡ Err (line, fault))
-TellsRefusal memory known (Some note) = Unit {0}
-TellsRefusal memory known None = Unit {0}
+ReportsRefusal memory known (Some note) = Unit {0}
+ReportsRefusal memory known None = Unit {0}
 
 -- by how many bytes the program's reader had given before and after
-abbrev pub TellsLength : ℕ → ℕ → Option Note → Type 0
-TellsLength old new (Some (notes.Load line loads.TooLong)) = GivesExactly old new (program_limit + 1)
-TellsLength old new (Some note) = Unit {0}
-TellsLength old new None = Unit {0}
+abbrev pub ReportsLength : ℕ → ℕ → Option Note → Type 0
+ReportsLength old new (Some (notes.Load line loads.TooLong)) = GivesExactly old new (program_limit + 1)
+ReportsLength old new (Some note) = Unit {0}
+ReportsLength old new None = Unit {0}
 
 -- ---- the input
 

@@ -3,7 +3,7 @@
 ghost use Rattle.std.specs.Prelude.{◌≡◌, ℕ, List, Option, None, IfErr, IfOk, IfSome, IsErrOf, OnOk, option_copied};
 ghost use Rattle.ptb_serve.specs.Prelude.{FailsAfterSome, FailsOnlyAfterSome, input_lines, play, exploration, play_of};
 ghost use Rattle.ptb_serve.specs.Prelude.{most_of, WritesRuns, report, Front, runs_left, mode_of, IsUnbegun};
-ghost use Rattle.ptb_serve.specs.Prelude.{ServesProgram, TellsFailures, TellsMismatch, answers_under, first_front};
+ghost use Rattle.ptb_serve.specs.Prelude.{ServesProgram, ReportsFailures, ReportsMismatch, answers_under, first_front};
 ghost use Rattle.ptb_serve.specs.Prelude.{front_note, items_of, ReadsInput};
 
 use crate::attempt::Attempt;
@@ -78,8 +78,8 @@ pub fn list_runs<R: Read, W: Write>(
         (R.remaining input.old) (R.remaining input.new)
         (R.failures input.old) (R.failures input.new)
         (R.given input.old) (R.given input.new) result.served }
-    ensures failures { TellsFailures (W.failures out.old) (W.failures out.new) result.served }
-    ensures mismatch { TellsMismatch (mode_of listing.entry) request.now program.now
+    ensures failures { ReportsFailures (W.failures out.old) (W.failures out.new) result.served }
+    ensures mismatch { ReportsMismatch (mode_of listing.entry) request.now program.now
         (R.remaining input.old) result.served result.mismatch }
     ensures no_line { result.line ≡ None }
 {
@@ -104,9 +104,9 @@ fn list_runs_on<W: Write>(
         → ServesProgram (mode_of listing.entry) request.now program.now known left
         (W.contents out.old) (W.contents out.new) result.served }
     ensures read { ¬ IsErrOf result.served Note.InputUnread }
-    ensures failures { TellsFailures (W.failures out.old) (W.failures out.new) result.served }
+    ensures failures { ReportsFailures (W.failures out.old) (W.failures out.new) result.served }
     ensures mismatch { (known : Option (List ℕ)) → IfSome known (λ c. lines.now ≡ input_lines c)
-        → TellsMismatch (mode_of listing.entry) request.now program.now known
+        → ReportsMismatch (mode_of listing.entry) request.now program.now known
         result.served result.mismatch }
     ensures no_line { result.line ≡ None }
 {

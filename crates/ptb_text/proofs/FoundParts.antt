@@ -24,7 +24,7 @@ use Rattle.ptb_text.specs.Words.{spelling_in_front, first_word, word_at, begins_
 use Rattle.ptb_text.specs.Words.{bytes_at, is_letter, letter_there, letter_at, small_number}
 use Rattle.ptb_text.specs.Words.{is_number, number_at, Quotation, NoQuote, QuotedText, is_quote}
 use Rattle.ptb_text.specs.Words.{quotation_up_to, quotation_there, quotation_at, is_quotation}
-use Rattle.ptb_text.specs.Finding.{LiesAhead, past_byte, StandsNext, FindingLaws}
+use Rattle.ptb_text.specs.Finding.{LiesAhead, past_byte, IsNextToken, FindingLaws}
 use Rattle.ptb_text.proofs.Words.{words_have_letters, first_word_end, finds_none}
 use Rattle.ptb_text.proofs.Blanks.{past_blanks_from, past_blanks_within, past_blanks_twice}
 
@@ -296,7 +296,7 @@ no_word table t i b e n =
     let h = slice_get_within t (past_blanks t i) b e in
     (finds_none table t (past_blanks t i) h (rw (get_or_from_slice_get t (past_blanks t i) b 0 e) n)).first
 
-stands_byte : (t : List ℕ) (i b : ℕ) → next_byte_at t i ≡ Some b → StandsNext t i (Some b)
+stands_byte : (t : List ℕ) (i b : ℕ) → next_byte_at t i ≡ Some b → IsNextToken t i (Some b)
 unfolding bytes_at letter_at quotation_at
 stands_byte t i b e = let there = byte_there t i b e in record {
   byte = e;
@@ -311,7 +311,7 @@ stands_byte t i b e = let there = byte_there t i b e in record {
   quotation = ap (λ o. is_quotation (quotation_there t (past_blanks t i) o)) e ∙ quotation_by t (past_blanks t i) b;
 }
 
-represents_end : (t : List ℕ) (i : ℕ) → next_byte_at t i ≡ None → StandsNext t i None
+represents_end : (t : List ℕ) (i : ℕ) → next_byte_at t i ≡ None → IsNextToken t i None
 unfolding bytes_at letter_at word_at number_at quotation_at
 represents_end t i e = let end = drop_all (past_blanks t i) t (past_end t i e) in record {
   byte = e;
@@ -326,7 +326,7 @@ represents_end t i e = let end = drop_all (past_blanks t i) t (past_end t i e) i
   quotation = ap (λ o. is_quotation (quotation_there t (past_blanks t i) o)) e;
 }
 
-pub stands_next : (t : List ℕ) (i : ℕ) (next : Option ℕ) → next_byte_at t i ≡ next → StandsNext t i next
+pub stands_next : (t : List ℕ) (i : ℕ) (next : Option ℕ) → next_byte_at t i ≡ next → IsNextToken t i next
 stands_next t i None e = represents_end t i e
 stands_next t i (Some b) e = stands_byte t i b e
 

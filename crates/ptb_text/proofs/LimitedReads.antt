@@ -10,7 +10,7 @@ use Rattle.ptb_text.specs.declared.device_fault.DeviceFault.{DeviceFault}
 use Rattle.ptb_text.specs.declared.allowance.Piece.{Piece}
 use Rattle.ptb_text.specs.declared.allowance.Piece.TheVariants.{End, Bytes, TooLong}
 use Rattle.ptb_text.specs.Device.{GivesExactly, HasFailed, IsCounted}
-use Rattle.ptb_text.specs.Streams.{Reads, ReadsUpTo, ReadsWithin, Tells, reads_of}
+use Rattle.ptb_text.specs.Streams.{Reads, ReadsUpTo, ReadsWithin, DescribesRead, reads_of}
 use Rattle.ptb_text.proofs.ByteCounts.{IsCounted_more, IsCounted_none}
 
 -- these bytes were taken so far, more may be, and no read failed
@@ -31,9 +31,9 @@ longer (Some xs) (Some ys) bs limit above took = omega (arith, above, ap length 
 -- what a read says, where its result is known
 pub told_as : {R : Type 0} {left now : ℕ} {input : Reads R} {result : Result Piece DeviceFault} {buffer : List ℕ}
     (step : ReadsWithin left now input result buffer) (r : Result Piece DeviceFault) → result ≡ r
-    → Tells r step.taken buffer left now input.left
+    → DescribesRead r step.taken buffer left now input.left
 told_as {R} {left} {now} {input} {result} {buffer} step r is =
-    subst (λ r. Tells r step.taken buffer left now input.left) is step.told
+    subst (λ r. DescribesRead r step.taken buffer left now input.left) is step.told
 
 module _ {R : Type 0} (remaining : R → Option (List ℕ)) (given failures : R → ℕ) (limit : ℕ) where
   abbrev read_from : R → R → Reads R
@@ -67,7 +67,7 @@ module _ {R : Type 0} (remaining : R → Option (List ℕ)) (given failures : R 
     module _ (n : ℕ) (is : result ≡ Ok (Bytes n)) where
       pub TakesUpTo_more : TakesUpTo limit now (read_from old new) (taken ++ take n buffer)
       TakesUpTo_more =
-          let told : Tells (Ok (Bytes n)) step.taken buffer left now (remaining new) = told_as step (Ok (Bytes n)) is in
+          let told : DescribesRead (Ok (Bytes n)) step.taken buffer left now (remaining new) = told_as step (Ok (Bytes n)) is in
           subst (λ bs. TakesUpTo limit now (read_from old new) (taken ++ bs)) told.0 (record {
             consumed = all_consumed;
             given = all_given;
@@ -79,14 +79,14 @@ module _ {R : Type 0} (remaining : R → Option (List ℕ)) (given failures : R 
       -- so fewer may still be taken
       pub falls : now < left
       falls =
-          let told : Tells (Ok (Bytes n)) step.taken buffer left now (remaining new) = told_as step (Ok (Bytes n)) is in
+          let told : DescribesRead (Ok (Bytes n)) step.taken buffer left now (remaining new) = told_as step (Ok (Bytes n)) is in
           let size : length step.taken ≡ n = ap length told.0 ∙ length-take-le n buffer told.2 in
           omega (arith, size, told.1, step.room)
 
     -- it was at its end, and these bytes were all
     pub all_taken : result ≡ Ok End → (P : List ℕ → Type 0) → P taken → IfSome (remaining old) P
     all_taken is P holds =
-        let told : Tells (Ok End) step.taken buffer left now (remaining new) = told_as step (Ok End) is in
+        let told : DescribesRead (Ok End) step.taken buffer left now (remaining new) = told_as step (Ok End) is in
         let whole : taken ++ step.taken ≡ taken = ap (λ bs. taken ++ bs) told.0 ∙ append-nil taken in
         Consumes-whole (remaining old) (remaining new) taken P
         (subst (Consumes (remaining old) (remaining new)) whole all_consumed) told.2 holds

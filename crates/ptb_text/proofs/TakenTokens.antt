@@ -21,7 +21,7 @@ use Rattle.ptb_text.specs.Digits.{is_digit, digits_value}
 use Rattle.ptb_text.specs.Words.{past_blanks, next_byte_at, words, first_word, word_at, is_letter}
 use Rattle.ptb_text.specs.Words.{letter_there, letter_at, small_number, number_at, is_number, is_quote}
 use Rattle.ptb_text.specs.Words.{quotation_at, QuotedText, OpenQuote}
-use Rattle.ptb_text.specs.Finding.{LiesAhead, past_byte, StandsNext}
+use Rattle.ptb_text.specs.Finding.{LiesAhead, past_byte, IsNextToken}
 use Rattle.ptb_text.proofs.Digits.{digits_stop, digits_end}
 use Rattle.ptb_text.proofs.FoundParts.{number_ahead, stands_next}
 use Rattle.std.proofs.lemmas.Option.{slice_get-get_or, slice_get_past}
@@ -166,12 +166,12 @@ past_end [] n h = refl
 past_end (x ∷ t) zero h = absurd (omega (arith, h))
 past_end (x ∷ t) (suc n) h = past_end t n (omega (arith, h))
 
-there : (t : List ℕ) (i n b : ℕ) → n ≡ past_blanks t i → b ≡ get_or t n 0 → n < length t → StandsNext t i (Some b)
+there : (t : List ℕ) (i n b : ℕ) → n ≡ past_blanks t i → b ≡ get_or t n 0 → n < length t → IsNextToken t i (Some b)
 there t i n b at byte h =
     stands_next t i (Some b) (ap (slice_get t) (sym at) ∙ slice_get-get_or t n 0 h ∙ ap Some (sym byte))
 
 pub next_there : (t x : List ℕ) (i n b : ℕ) → x ≡ t → n ≡ past_blanks t i → b ≡ get_or x n 0 → (b ≡ 0 → ⊥)
-    → StandsNext t i (Some b)
+    → IsNextToken t i (Some b)
 next_there t x i n b same at byte some =
     let is : b ≡ get_or t n 0 = byte ∙ ap (λ l. get_or l n 0) same in
     elim (cases_lt n (length t)) [
@@ -180,11 +180,11 @@ next_there t x i n b same at byte some =
     ]
 
 pub next_within : (t x : List ℕ) (i n b : ℕ) → x ≡ t → n ≡ past_blanks t i → b ≡ get_or x n 0 → n ≤ length x
-    → (n ≡ length x → ⊥) → StandsNext t i (Some b)
+    → (n ≡ length x → ⊥) → IsNextToken t i (Some b)
 next_within t x i n b same at byte low before =
     there t i n b at (byte ∙ ap (λ l. get_or l n 0) same) (omega (arith, low, before, ap length same))
 
-pub next_none : (t x : List ℕ) (i n : ℕ) → x ≡ t → n ≡ past_blanks t i → n ≡ length x → StandsNext t i None
+pub next_none : (t x : List ℕ) (i n : ℕ) → x ≡ t → n ≡ past_blanks t i → n ≡ length x → IsNextToken t i None
 next_none t x i n same at end =
     stands_next t i None (ap (slice_get t) (sym at) ∙ slice_get_past t n (omega (arith, end, ap length same)))
 

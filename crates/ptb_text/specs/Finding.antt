@@ -1,6 +1,6 @@
 -- This file states what holds of all that is found at a place: where it ends, and what the next byte says about it.
 --     LiesAhead t i j          j is a place that something found at i may end at
---     StandsNext t i next      what the next byte says about each thing that may be found at i
+--     IsNextToken t i next      what the next byte says about each thing that may be found at i
 --     FindingLaws              both hold of all that is found
 use Rattle.std.specs.Prelude.{◌≡◌, ℕ, ◌+◌, ◌<◌, ◌≤◌, Bool, false, ◌==◌, if◌then◌else◌, List}
 use Rattle.std.specs.Prelude.{length, Option, Some, None, is_none, IsTrue, IsFalse, ℤ}
@@ -35,7 +35,7 @@ abbrev pub past_byte : List ℕ → ℕ → ℕ
 past_byte t i = past_blanks t (past_blanks t i + 1)
 
 -- next is the next byte, if there is one, and this is what it says
-pub record StandsNext (t : List ℕ) (i : ℕ) (next : Option ℕ) : Type 0 where
+pub record IsNextToken (t : List ℕ) (i : ℕ) (next : Option ℕ) : Type 0 where
   pub byte : next_byte_at t i ≡ next
   pub over : is_over t i ≡ is_none next
   pub token : (c : ℕ) → token_at c t i ≡ (if is_next (λ b. c == b) next then Some (past_byte t i) else None)
@@ -66,4 +66,4 @@ pub record FindingLaws : Type 0 where
   pub number_range : (t : List ℕ) (i : ℕ) (v : ℤ) (j : ℕ) → number_at t i ≡ (Value v, j)
       → (pos 0 ≤ℤ v) × (v ≤ℤ pos number_limit)
   pub quotation : (t : List ℕ) (i : ℕ) (s : List ℕ) (j : ℕ) → quotation_at t i ≡ QuotedText s j → LiesAhead t i j
-  pub next : (t : List ℕ) (i : ℕ) → StandsNext t i (next_byte_at t i)
+  pub next : (t : List ℕ) (i : ℕ) → IsNextToken t i (next_byte_at t i)

@@ -2,7 +2,7 @@
 --     Reads R, reads_of ..        what was read: the reader before and after, its bytes, and its counts
 --     Writes, writes_of ..        what was written: the bytes that the writer has, and its count
 --     ConsumesAtMost old new n    known bytes lose at most their first n
---     Tells result taken ..       what a read within a limit says of the bytes that it took
+--     DescribesRead result taken ..       what a read within a limit says of the bytes that it took
 --     ReadsWithin left now ..     a reader is read once, within what is left of a limit
 --     ReadsUpTo limit input ..    a reader is read to its end, within a limit
 use Rattle.std.specs.Prelude.{◌≡◌, ℕ, ◌+◌, ◌<◌, ◌≤◌, List, [], length, take, Option, IfSome}
@@ -60,12 +60,12 @@ ConsumesAtMost old new n = (bytes : List ℕ) × (length bytes ≤ n) × Consume
 -- What a read says of the bytes that it took, and of how many may be taken before and after it. A reader that has
 -- failed or is at its end gave none. Bytes are at the front of the buffer, and more may be taken. There are too many
 -- only where the last one that may be taken came, and nothing with it.
-abbrev pub Tells : Result Piece DeviceFault → (taken buffer : List ℕ) (left now : ℕ) → Option (List ℕ) → Type 0
-Tells (Ok End) taken buffer left now bytes = (taken ≡ []) × (0 < now) × IsAtEnd bytes
-Tells (Ok (Bytes n)) taken buffer left now bytes =
+abbrev pub DescribesRead : Result Piece DeviceFault → (taken buffer : List ℕ) (left now : ℕ) → Option (List ℕ) → Type 0
+DescribesRead (Ok End) taken buffer left now bytes = (taken ≡ []) × (0 < now) × IsAtEnd bytes
+DescribesRead (Ok (Bytes n)) taken buffer left now bytes =
     (taken ≡ take n buffer) × (0 < n) × (n ≤ length buffer) × (0 < now)
-Tells (Ok TooLong) taken buffer left now bytes = (left ≤ 1) × (now ≡ 0)
-Tells (Err fault) taken buffer left now bytes = taken ≡ []
+DescribesRead (Ok TooLong) taken buffer left now bytes = (left ≤ 1) × (now ≡ 0)
+DescribesRead (Err fault) taken buffer left now bytes = taken ≡ []
 
 -- A reader is read once. So many bytes may be taken before and after, and the last of them only shows that there are
 -- too many.
@@ -75,7 +75,7 @@ pub record ReadsWithin {R : Type 0} (left now : ℕ) (input : Reads R) (result :
   pub consumed : Consumes input.bytes input.left taken
   pub given : IsCounted input.gave input.gives (length taken)
   pub room : length taken + now ≡ left
-  pub told : Tells result taken buffer left now input.left
+  pub told : DescribesRead result taken buffer left now input.left
   -- The reader is at fault where it failed, and only there.
   pub has_failed : IsErr result → HasFailed input.failed input.fails
   pub unfailed : IsOk result → input.fails ≡ input.failed

@@ -2,7 +2,7 @@
 
 ghost use Rattle.std.specs.Prelude.{◌≡◌, ◌+◌, ◌<◌, ◌≤◌, length, if◌then◌else◌, Some, None, IsTrue, IsFalse, IsSome};
 ghost use Rattle.std.specs.Prelude.{IsNone, IfSome, option_map, position, ◌==◌, get_or};
-ghost use Rattle.ptb_text.specs.Prelude.{CursorState, bytes_left, past_byte, StandsNext, past_blanks, next_byte_at};
+ghost use Rattle.ptb_text.specs.Prelude.{CursorState, bytes_left, past_byte, IsNextToken, past_blanks, next_byte_at};
 ghost use Rattle.ptb_text.specs.Prelude.{is_over, token_at, pair_at, letter_at, number_at, is_number, quotation_at};
 ghost use Rattle.ptb_text.specs.Prelude.{quotation_of, is_text, IsPieceFrom, word_at, IsWordOf};
 
@@ -146,7 +146,7 @@ impl<'a> Cursor<'a> {
     /// It says what can be found at the place, so that a caller need not try anything else.
     #[inline(always)]
     pub fn next_byte(&self) -> Option<u8>
-        ensures { StandsNext self.now.text self.now.place result }
+        ensures { IsNextToken self.now.text self.now.place result }
     {
         if self.byte != 0 {
             return Some(self.byte);

@@ -2,7 +2,7 @@
 -- to where the machine is.
 use Rattle.std.proofs.Common.{◌≡◌, ◌≤◌, ◌-◌, false, length, take, drop}
 use Rattle.ptb_code.specs.State.{State}
-use Rattle.ptb_chances.specs.Standing.{Came, StandsAt}
+use Rattle.ptb_chances.specs.Standing.{Came, IsStageAt}
 use Rattle.ptb_chances.proofs.plays.play_plan.Given as goal
 
 abbrev pub invariant-commands : goal.invariant-commands
@@ -14,7 +14,7 @@ invariant-commands l = record {
   unspent : l.machine.spent ≡ false;
   steps : l.fn.machine.steps ≤ l.machine.steps;
   came : (S : State)
-      → StandsAt l.fn.player l.rules l.fn.machine (drop l.fn.console.source.taken l.fn.console.source.lines)
+      → IsStageAt l.fn.player l.rules l.fn.machine (drop l.fn.console.source.taken l.fn.console.source.lines)
       l.fn.console.screen S
       → Came l.player l.rules S (take l.plan.given l.plan.answers) l.machine
       (drop l.console.source.taken l.console.source.lines) l.console.screen;

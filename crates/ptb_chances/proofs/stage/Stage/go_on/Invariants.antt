@@ -2,7 +2,7 @@
 -- the trial is.
 use Rattle.std.proofs.Common.{◌≡◌, ◌≤◌, ◌-◌, [], false, length, drop}
 use Rattle.ptb_code.specs.State.{State}
-use Rattle.ptb_chances.specs.Standing.{Came, StandsAt}
+use Rattle.ptb_chances.specs.Standing.{Came, IsStageAt}
 use Rattle.ptb_chances.proofs.stage.Stage.go_on.Given as goal
 
 abbrev pub invariant-commands : goal.invariant-commands
@@ -14,7 +14,7 @@ invariant-commands l = record {
   unspent : l.self.trial.spent ≡ false;
   steps : l.fn.self.rules.limit - l.self.trial.steps ≤ l.fn.self.rules.limit - l.fn.self.trial.steps;
   came : (S : State)
-      → StandsAt l.fn.self.player l.fn.self.rules l.fn.self.trial
+      → IsStageAt l.fn.self.player l.fn.self.rules l.fn.self.trial
       (drop l.fn.self.console.source.taken l.fn.self.console.source.lines) l.fn.self.console.screen S
       → Came l.fn.self.player l.fn.self.rules S [] l.self.trial
       (drop l.self.console.source.taken l.fn.self.console.source.lines) l.self.console.screen;

@@ -6,7 +6,7 @@ use Rattle.std.proofs.lemmas.List.{length-take-le}
 use Rattle.ptb_machine.specs.Play.{play}
 use Rattle.ptb_answers.specs.Outcome.{Answers}
 use Rattle.ptb_explore.proofs.Recorded.{given_len, recorded_len}
-use Rattle.ptb_explore.specs.Copies.{AreTakenBy, StandsAt, taken_choices}
+use Rattle.ptb_explore.specs.Copies.{AreTakenBy, IsCopyAt, taken_choices}
 use Rattle.ptb_explore.specs.PlannedPlays.{IsRunPrefix, PlayEnds}
 use Rattle.ptb_explore.specs.Recorders.{RefusedByPlan, recorder_choices, given_bounds, recorded}
 use Rattle.ptb_explore.specs.declared.recorder.Recorder.{Recorder}
@@ -73,7 +73,7 @@ loop-ending-preserved c =
     let before : l.self.trial.given ≡ length old.taken = given_len l.self.trial ∙ sym (taken_length l.self.trial) in
     let taken : c.step.new.chooser.given ≡ length (old.taken ++ more.answers) =
     given_len c.step.new.chooser ∙ sym (taken_length c.step.new.chooser) ∙ ap length more.taken in
-    let stands : (k : _) → _ → _ → StandsAt c.advance.new.self input c.args.self.now.rules k (old.taken ++ more.answers)
+    let stands : (k : _) → _ → _ → IsCopyAt c.advance.new.self input c.args.self.now.rules k (old.taken ++ more.answers)
     (l.screen ++ more.bytes) = (λ k took copy. record {
       machine = c.step.new.machine;
       machine_is = copy.machine;
