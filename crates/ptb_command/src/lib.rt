@@ -20,7 +20,7 @@ pub use command_io::CommandIo;
 pub use ending::Ending;
 pub use execution::context::Context;
 pub use execution::jumps::place_after_condition;
-pub use execution::plain::own_value;
+pub use execution::plain_values::own_value;
 pub use execution::print::Output;
 pub use execution::turns::end_newest_turn;
 pub use fault_words::fault_line;
