@@ -5,7 +5,7 @@ use Rattle.ptb_code.specs.Locations.{PlacesAre, NextIs}
 use Rattle.ptb_code.specs.State.{Place, next_command}
 use Rattle.ptb_code.proofs.Placed.{not_placed}
 use Rattle.ptb_code.proofs.Nexts.{placed, text_there, next_nowhere, next_here, next_last, next_empty, next_later}
-use Rattle.ptb_code.proofs.next_command.next_command.Goals as goal
+use Rattle.ptb_code.proofs.command_finder.next_command.Goals as goal
 
 pub returns-in_err-here-clause-next : goal.returns-in_err-here-clause-next
 returns-in_err-here-clause-next c q a =
