@@ -223,11 +223,17 @@ is_in_order() {
         if [ "$name" = ptb ]; then return; fi
     done < <(grep '^[a-z]' "$root/crates.txt")
 }
-first=$(sed -n 's/^\([a-z_]*\):.*/\1/p' "$root/crates.txt" | head -n 1)
-behaves "case \"\$name \$arguments\" in '$first '*' --jobs 1 '*) ;; '$first '*) kill -9 \$\$ ;; esac"
+behaves 'case "$name $arguments" in "ptb "*" --jobs 1 "*) ;; "ptb "*) kill -9 $$ ;; esac'
 count_if 'the crates of this repository are built' starts_program '^ptb: crate [0-9]* of [0-9]* (ptb)$' --list
 count_if 'each of them after those it names' is_in_order
-count_if 'a prover that was killed is started once more' [ "$(grep -cx "begins $first" "$kit/calls")" = 2 ]
+# has_jobs CRATE NUMBER: whether its prover was called with this number of jobs
+has_jobs() {
+    grep -q -e "--jobs $2 " "$kit/arguments of $1"
+}
+cores=$(nproc)
+count_if 'the crate for which most others wait has a job for each core' has_jobs ptb_text $((cores > 4 ? 4 : cores))
+count_if 'one for which fewer wait has one job' has_jobs ptb_options 1
+count_if 'a prover that was killed is started once more' [ "$(grep -cx 'begins ptb' "$kit/calls")" = 2 ]
 
 # Whether the two crates in the middle are proved at the same time: each waits until the other has begun.
 are_proved_together() {
