@@ -26,30 +26,6 @@ pub(crate) struct KeptCopy {
     pub(crate) lines: usize,
 }
 
-/// How many answers the runs took so far.
-#[derive(Clone, Copy)]
-enum RunLength {
-    /// No run took answers yet.
-    Unknown,
-    /// Each run took this many.
-    Same(usize),
-    /// The runs took different numbers.
-    Varies,
-}
-
-impl RunLength {
-    // Notes one more run, which took `taken` answers.
-    #[inline(always)]
-    fn note(&mut self, taken: usize) {
-        match *self {
-            RunLength::Unknown if taken == 0 => {}
-            RunLength::Unknown => *self = RunLength::Same(taken),
-            RunLength::Same(length) if length == taken => {}
-            _ => *self = RunLength::Varies,
-        }
-    }
-}
-
 /// How far a run is.
 #[derive(Clone, Copy)]
 pub(crate) struct Progress {
@@ -137,8 +113,6 @@ pub(crate) struct Copies {
     /// The machine of the run before, whose room the next run takes first: to add it to the spare ones
     /// and take it from there would cost more.
     last: Option<Box<Machine>>,
-    /// How many answers the runs took.
-    length: RunLength,
 }
 
 // The room of the last machine, or of a spare one, if there is one.
@@ -162,7 +136,6 @@ impl Copies {
             kept: ArrayVec::new(),
             spare: ArrayVec::new(),
             last: None,
-            length: RunLength::Unknown,
         }
     }
 
@@ -213,35 +186,19 @@ impl Copies {
         }
     }
 
-    /// How many answers the next run is expected to take: as many as each run before it, if all took
-    /// as many; otherwise 0.
-    pub(crate) fn expected(&self) -> usize {
-        match self.length {
-            RunLength::Same(length) => length,
-            _ => 0,
-        }
-    }
-
     /// Keeps a copy of a machine that took answers in its last step, if there is memory for it. The run
     /// is as far as `reached` says; `before` is the number of answers taken before that step.
-    ///
-    /// None is kept where as many were taken as the run is `expected` to take: no other run continues
-    /// from there, unless it does take more.
     pub(crate) fn keep(
         &mut self,
         alloc: Global,
         machine: &Machine,
         before: usize,
-        expected: usize,
         reached: Progress,
     )
         ensures { KeepsCopy before machine.now reached.taken reached.shown reached.lines
             self.old.kept.items self.new.kept.items }
     {
         if reached.taken <= before {
-            return;
-        }
-        if reached.taken == expected {
             return;
         }
         // a copy, so that it lies in memory only where a copy of the machine is kept
@@ -274,7 +231,7 @@ impl Copies {
     }
 
     /// Drops the copies that took more answers than `most`, and gives a copy of the newest that is
-    /// left, from which a run can continue. Notes that the run before took `last` answers.
+    /// left, from which a run can continue.
     ///
     /// # Errors
     ///
@@ -284,11 +241,9 @@ impl Copies {
         &mut self,
         alloc: Global,
         most: usize,
-        last: usize,
     ) -> Result<Option<KeptCopy>, AllocError>
         ensures { IfOk result (GoesBackTo most self.old.kept.items self.new.kept.items) }
     {
-        self.length.note(last);
         loop {
             let Some(newest) = self.kept.as_slice().last() else {
                 return Ok(None);

@@ -45,7 +45,6 @@ impl<'a> Runner<'a> {
     {
         run_laws();
         let rules = self.rules;
-        let expected = self.copies.expected();
         loop {
             self.player.advance(machine, rules.limit);
             let before = self.trial.given;
@@ -65,8 +64,7 @@ impl<'a> Runner<'a> {
                 shown,
                 lines,
             };
-            self.copies
-                .keep(self.alloc, machine, before, expected, reached);
+            self.copies.keep(self.alloc, machine, before, reached);
         }
     }
 

@@ -100,10 +100,7 @@ impl<'a> Runner<'a> {
             (WentBack common self.old.copies.kept.items self.new.copies.kept.items) }
         ensures steps { IfOk result (λ b. b.value.steps ≡ last_steps self.new.copies.kept.items) }
     {
-        match self
-            .copies
-            .go_back(self.alloc, common, self.report.asked.len())?
-        {
+        match self.copies.go_back(self.alloc, common)? {
             None => {
                 screen.cut(0);
                 self.copies.begin(self.alloc, &self.player)

@@ -80,22 +80,21 @@ const MANY_QUESTIONS: &str = "10 F.I=1TO69;A=RND(1);N.I\n20 A=RND(2),B=RND(2)";
 
 const EXPLORED: &[Explored] = table! { Explored:
     // a question asked before no other command: nothing is played again but the run itself
-    (ONE_QUESTION, None, &[Run(&[1], 402, 1, 402), Run(&[2], 402, 0, 804), Run(&[3], 402, 0, 1206)]),
+    (ONE_QUESTION, None, &[Run(&[1], 402, 1, 402), Run(&[2], 402, 1, 804), Run(&[3], 402, 1, 1206)]),
     // more questions than copies: those with the fewest answers are dropped, and each run after the first
     // continues from the newest copy that has the answers before the raised one
     (MANY_QUESTIONS, None, &[
-        Run(&[1, 1], 140, 64, 140), Run(&[1, 2], 140, 63, 142),
-        Run(&[2, 1], 140, 63, 144), Run(&[2, 2], 140, 63, 146),
+        Run(&[1, 1], 140, 64, 140), Run(&[1, 2], 140, 64, 142),
+        Run(&[2, 1], 140, 64, 144), Run(&[2, 2], 140, 64, 146),
     ]),
     // an answer that stands in for a missing line is kept as any other: only what comes after it is played
     // again
     ("10 F.I=1TO100;A=I;N.I\n20 INPUT A\n30 INPUT B", Some(2), &[
-        Run(&[1, 1], 203, 2, 203), Run(&[1, 2], 203, 1, 204),
-        Run(&[2, 1], 203, 1, 407), Run(&[2, 2], 203, 1, 408),
+        Run(&[1, 1], 203, 2, 203), Run(&[1, 2], 203, 2, 204),
+        Run(&[2, 1], 203, 2, 407), Run(&[2, 2], 203, 2, 408),
     ]),
-    // a run that takes more answers than all before has no copy where these ended; the run after it keeps
-    // one there again
-    ("10 A=RND(2);IF A=2 B=RND(2)", None, &[Run(&[1], 2, 1, 2), Run(&[2, 1], 3, 1, 5), Run(&[2, 2], 3, 2, 8)]),
+    // a run that takes more answers than the one before has one copy more
+    ("10 A=RND(2);IF A=2 B=RND(2)", None, &[Run(&[1], 2, 1, 2), Run(&[2, 1], 3, 2, 5), Run(&[2, 2], 3, 2, 7)]),
 };
 
 #[test]
@@ -204,9 +203,8 @@ fn refused_copies(rt: HostRuntime) {
     expect_same(&rt, "has these runs", (one, many), (true, true));
 }
 
-// The third of many questions' runs, where only the second was played before. It takes as many answers,
-// so that no copy is kept after its last one.
-const THIRD_RUN: Run = Run(&[2, 1], 140, 63, 142);
+// The third of many questions' runs, where only the second was played before.
+const THIRD_RUN: Run = Run(&[2, 1], 140, 64, 142);
 
 // Whether it comes after the second.
 fn is_third_next(alloc: Global, program: &Program, lines: &[Line]) -> bool {
