@@ -25,7 +25,8 @@ other_byte c b h = ne_eqb c b (λ e. h (sym e))
 
 -- ---- `*` and `/`
 
-pub times_next : (t : List ℕ) (i : ℕ) → IsNextToken t i (Some 42) → product_operator t i ≡ Some (Multiply, past_byte t i)
+pub times_next : (t : List ℕ) (i : ℕ) → IsNextToken t i (Some 42)
+    → product_operator t i ≡ Some (Multiply, past_byte t i)
 unfolding product_operator
 times_next t i s = rw (s.token 42) refl
 

@@ -16,7 +16,8 @@ use Rattle.ptb_serve.specs.declared.list_mismatch.ListMismatch.{ListMismatch}
 use Rattle.ptb_serve.specs.declared.note.Note.{Note}
 use Rattle.ptb_serve.specs.declared.note.Note.TheVariants as notes
 use Rattle.ptb_serve.specs.declared.service.Outcome.{Outcome}
-use Rattle.ptb_serve.specs.Loaded.{ServesProgram, ReadsInput, ReportsFailures, ReportsLine, ReportsMismatch, line_in_mode}
+use Rattle.ptb_serve.specs.Loaded.{ServesProgram, ReadsInput, ReportsFailures, ReportsLine, ReportsMismatch}
+use Rattle.ptb_serve.specs.Loaded.{line_in_mode}
 use Rattle.ptb_serve.specs.ListMismatches.{IsMismatchOf}
 use Rattle.ptb_serve.specs.Promises.{Served, ReadsOnlyWhatIsAsked, FailsLoudly}
 use Rattle.ptb_serve.specs.Replies.{listing_reply, program_of_text, program_reply_in_mode, reply_in_mode}

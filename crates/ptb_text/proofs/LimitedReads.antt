@@ -67,21 +67,23 @@ module _ {R : Type 0} (remaining : R → Option (List ℕ)) (given failures : R 
     module _ (n : ℕ) (is : result ≡ Ok (Bytes n)) where
       pub TakesUpTo_more : TakesUpTo limit now (read_from old new) (taken ++ take n buffer)
       TakesUpTo_more =
-          let told : DescribesRead (Ok (Bytes n)) step.taken buffer left now (remaining new) = told_as step (Ok (Bytes n)) is in
-          subst (λ bs. TakesUpTo limit now (read_from old new) (taken ++ bs)) told.0 (record {
+          let read : DescribesRead (Ok (Bytes n)) step.taken buffer left now (remaining new) =
+          told_as step (Ok (Bytes n)) is in
+          subst (λ bs. TakesUpTo limit now (read_from old new) (taken ++ bs)) read.0 (record {
             consumed = all_consumed;
             given = all_given;
             room = all_length;
-            some = told.3;
+            some = read.3;
             unfailed = step.unfailed (ap is_ok is) ∙ before.unfailed;
           })
 
       -- so fewer may still be taken
       pub falls : now < left
       falls =
-          let told : DescribesRead (Ok (Bytes n)) step.taken buffer left now (remaining new) = told_as step (Ok (Bytes n)) is in
-          let size : length step.taken ≡ n = ap length told.0 ∙ length-take-le n buffer told.2 in
-          omega (arith, size, told.1, step.room)
+          let read : DescribesRead (Ok (Bytes n)) step.taken buffer left now (remaining new) =
+          told_as step (Ok (Bytes n)) is in
+          let size : length step.taken ≡ n = ap length read.0 ∙ length-take-le n buffer read.2 in
+          omega (arith, size, read.1, step.room)
 
     -- it was at its end, and these bytes were all
     pub all_taken : result ≡ Ok End → (P : List ℕ → Type 0) → P taken → IfSome (remaining old) P

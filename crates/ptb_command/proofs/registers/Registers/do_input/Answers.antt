@@ -26,7 +26,8 @@ returns-in-Ok-false g c =
     c.take_at_hand.new.output (Ok false))) (sym c.in-Some.ensures.some.1)
     (subst (λ r. IsPartTaken g.C.Chooser g.S.Screen g.L.LineSource c.line_at.result.1.now
     c.args.context.now.steps.now (Input item.prompt item.destination) c.args.self.now.store c.take_at_hand.new.store
-    c.args.io.now c.take_at_hand.new.io c.begin.new.self c.take_at_hand.new.output r) (c.in-Ok-false.is ∙ ap Ok c.in-Ok-false.field-0-test) taken))
+    c.args.io.now c.take_at_hand.new.io c.begin.new.self c.take_at_hand.new.output r)
+    (c.in-Ok-false.is ∙ ap Ok c.in-Ok-false.field-0-test) taken))
 
 pub returns-in-Err : goal.returns-in-Err
 returns-in-Err g c =
