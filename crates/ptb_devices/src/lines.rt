@@ -89,6 +89,8 @@ impl Line {
     /// The line that these bytes are: tabs are made spaces, then whatever doesn't print (below 32,
     /// above 126) is removed, and then everything after the 255th byte.
     ///
+    /// For users of the library: the program doesn't call it.
+    ///
     /// # Errors
     ///
     /// [`AllocError`] where there is no memory for the bytes that are kept.

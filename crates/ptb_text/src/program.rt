@@ -69,6 +69,8 @@ impl Program {
     }
 
     /// The memory that it is given, 64 to 32767.
+    ///
+    /// For users of the library: the program doesn't call it.
     pub fn memory(&self) -> u16
         ensures value { result ≡ self.now.memory }
         ensures sound { IsSound self.now }
@@ -101,6 +103,8 @@ impl Program {
     }
 
     /// The text of the statement of this number, if there is one.
+    ///
+    /// For users of the library: the program doesn't call it.
     pub fn line(&self, number: i16) -> Option<&[u8]>
         ensures value { option_copied result ≡ text_under self.now.lines number }
         ensures number { OnSome result (pos 0 <ℤ number) }
@@ -137,6 +141,8 @@ impl Program {
     }
 
     /// The least number of a statement, if there is one.
+    ///
+    /// For users of the library: the program doesn't call it.
     pub fn first(&self) -> Option<i16>
         ensures value { result ≡ option_map pos (first_number self.now.lines) }
         ensures text { IfSome result (λ n. IsSome (text_under self.now.lines n)) }
@@ -146,6 +152,8 @@ impl Program {
     }
 
     /// The least number of a statement above `number`, if there is one.
+    ///
+    /// For users of the library: the program doesn't call it.
     pub fn after(&self, number: i16) -> Option<i16>
         ensures value { result ≡ option_map pos (number_above self.now.lines number) }
         ensures text { IfSome result (λ n. IsSome (text_under self.now.lines n)) }
