@@ -10,7 +10,7 @@ use Rattle.std.specs.declared.cmp.Ordering.TheVariants.{Less, Equal, Greater}
 use Rattle.ptb_numbers.specs.Fractions.{Ratio}
 use Rattle.ptb_explore.specs.Chances.{Row, result_order}
 use Rattle.ptb_chances.specs.declared.result_key.ResultKey.{ResultKey}
-use Rattle.ptb_chances.specs.declared.tally.Share.{Share}
+use Rattle.ptb_chances.specs.declared.tally.ResultShare.{ResultShare}
 use Rattle.ptb_chances.specs.Accounts.{AreAlike, AddsRow, AreSame, HasChance, ArePositive}
 use Rattle.ptb_chances.specs.Keys.{Joins, key_result, row_of_share, rows_of}
 use Rattle.ptb_chances.proofs.Accounts.{alike_self, alike_then, alike_back, alike_more}
@@ -27,7 +27,7 @@ row k chance runs = record { result = key_result k; chance = chance; runs = runs
 module _ (key : ResultKey) where
   -- ---- where the key is not there
 
-  inserted : (v : Share) (es : List (ResultKey × Share)) → lookup (is_at (order key)) es ≡ None
+  inserted : (v : ResultShare) (es : List (ResultKey × ResultShare)) → lookup (is_at (order key)) es ≡ None
       → AreAlike (rows_of (insert_entry order es key v)) (row_of_share (key, v) ∷ rows_of es)
   inserted v [] none = alike_self (row_of_share (key, v) ∷ [])
   inserted v (e ∷ es) none = by_order (inserted v es) (order key e.0) none
@@ -46,7 +46,7 @@ module _ (key : ResultKey) where
           (later h))
           (alike_turned (row_of_share e) (row_of_share (key, v)) (rows_of es))
 
-  none_removed : (es : List (ResultKey × Share)) → lookup (is_at (order key)) es ≡ None
+  none_removed : (es : List (ResultKey × ResultShare)) → lookup (is_at (order key)) es ≡ None
       → remove_entry (is_at (order key)) es ≡ es
   none_removed [] none = refl
   none_removed (e ∷ es) none = by_test (none_removed es) (is_at (order key) e.0) none
@@ -59,7 +59,7 @@ module _ (key : ResultKey) where
 
   -- ---- where it is there
 
-  same_row : (k : ResultKey) (v w : Share) → is_eq (order key k) ≡ true → Some w ≡ Some v
+  same_row : (k : ResultKey) (v w : ResultShare) → is_eq (order key k) ≡ true → Some w ≡ Some v
       → row_of_share (k, w) ≡ row_of_share (key, v)
   same_row k v w h is =
       let same : w ≡ v = cc in
@@ -72,7 +72,7 @@ module _ (key : ResultKey) where
       equal_from Equal h = refl
       equal_from Greater h = absurd cc
 
-  taken_out : (v : Share) (es : List (ResultKey × Share)) → lookup (is_at (order key)) es ≡ Some v
+  taken_out : (v : ResultShare) (es : List (ResultKey × ResultShare)) → lookup (is_at (order key)) es ≡ Some v
       → AreAlike (rows_of es) (row_of_share (key, v) ∷ rows_of (remove_entry (is_at (order key)) es))
   taken_out v [] is = absurd cc
   taken_out v (e ∷ es) is = by_test (taken_out v es) (is_at (order key) e.0) refl is
@@ -94,7 +94,7 @@ module _ (key : ResultKey) where
 
   -- ---- rows that are positive
 
-  insert_positive : (v : Share) (es : List (ResultKey × Share)) → HasChance (row_of_share (key, v))
+  insert_positive : (v : ResultShare) (es : List (ResultKey × ResultShare)) → HasChance (row_of_share (key, v))
       → ArePositive (rows_of es) → lookup (is_at (order key)) es ≡ None
       → ArePositive (rows_of (insert_entry order es key v))
   insert_positive v [] one all none = (one, tt)
@@ -108,7 +108,7 @@ module _ (key : ResultKey) where
       by_order later Equal h = absurd cc
       by_order later Greater h = (all.0, later h)
 
-  remove_positive : (es : List (ResultKey × Share)) → ArePositive (rows_of es)
+  remove_positive : (es : List (ResultKey × ResultShare)) → ArePositive (rows_of es)
       → ArePositive (rows_of (remove_entry (is_at (order key)) es))
   remove_positive [] all = tt
   remove_positive (e ∷ es) all = by_test (remove_positive es all.1) (is_at (order key) e.0)
@@ -120,13 +120,13 @@ module _ (key : ResultKey) where
 
   -- ---- what was added
 
-  module _ (chance : Ratio) (runs : ℕ) (share : Share) (es : List (ResultKey × Share)) where
-    share_positive : (old : Option Share) → Joins old chance runs share → HasChance (row key chance runs)
+  module _ (chance : Ratio) (runs : ℕ) (share : ResultShare) (es : List (ResultKey × ResultShare)) where
+    share_positive : (old : Option ResultShare) → Joins old chance runs share → HasChance (row key chance runs)
         → HasChance (row_of_share (key, share))
     share_positive None j one = record { denominator = rw j.0 (one.denominator); runs = rw j.1 (one.runs) }
     share_positive (Some v) j one = record { denominator = j.1; runs = omega (arith, j.2, one.runs) }
 
-    same_after : (old : Option Share) → old ≡ lookup (is_at (order key)) es → Joins old chance runs share
+    same_after : (old : Option ResultShare) → old ≡ lookup (is_at (order key)) es → Joins old chance runs share
         → AreSame (row_of_share (key, share) ∷ rows_of (remove_entry (is_at (order key)) es))
         (row key chance runs ∷ rows_of es)
     same_after None is j =
@@ -145,7 +145,8 @@ module _ (key : ResultKey) where
         (rows_of es) (alike_back (rows_of es)
         (row_of_share (key, v) ∷ rows_of (remove_entry (is_at (order key)) es)) (taken_out v es (sym is))))
 
-    pub added : (old : Option Share) (es' es'' : List (ResultKey × Share)) → old ≡ lookup (is_at (order key)) es
+    pub added : (old : Option ResultShare) (es' es'' : List (ResultKey × ResultShare))
+        → old ≡ lookup (is_at (order key)) es
         → es' ≡ remove_entry (is_at (order key)) es → lookup (is_at (order key)) es' ≡ None
         → es'' ≡ insert_entry order es' key share → Joins old chance runs share
         → AddsRow (rows_of es) (row key chance runs) (rows_of es'')
@@ -154,7 +155,7 @@ module _ (key : ResultKey) where
           let alike : AreAlike (rows_of es'') (row_of_share (key, share) ∷ rows_of es') =
           rw insert (inserted share es' none) in
           let rest : AreAlike (rows_of es'') (row_of_share (key, share) ∷ rows_of
-          (remove_entry (is_at (order key)) es)) = subst (λ (fs : List (ResultKey × Share)). AreAlike
+          (remove_entry (is_at (order key)) es)) = subst (λ (fs : List (ResultKey × ResultShare)). AreAlike
           (rows_of es'') (row_of_share (key, share) ∷ rows_of fs)) removed alike in
           alike_same (rows_of es'') (row_of_share (key, share) ∷ rows_of (remove_entry (is_at (order key)) es))
           (row key chance runs ∷ rows_of es) rest (same_after old is j);

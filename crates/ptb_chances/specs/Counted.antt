@@ -8,10 +8,10 @@ use Rattle.ptb_chances.specs.declared.stage.Stage.{Stage}
 use Rattle.ptb_chances.specs.Waiting.{Accounted, Standing, load}
 
 abbrev pub most_asked : Stage → ℕ
-most_asked s = most_answers s.player s.console.source.lines s.rules.limit
+most_asked s = most_answers s.player s.devices.source.lines s.rules.limit
 
 abbrev pub IsTallied : Stage → List Row → List Standing → Type 0
-IsTallied s tally ws = Accounted s.player s.console.source.lines s.rules (most_asked s) tally ws
+IsTallied s tally ws = Accounted s.player s.devices.source.lines s.rules (most_asked s) tally ws
 
 abbrev pub load_left : Stage → List Standing → ℕ
 load_left s ws = load s.rules.limit (most_asked s) ws

@@ -11,19 +11,19 @@ use Rattle.ptb_explore.specs.Report.{ending_word}
 use Rattle.ptb_explore.specs.ReportText.{field}
 use Rattle.ptb_numbers.specs.Decimals.{decimals}
 use Rattle.ptb_chances.specs.declared.result_key.ResultKey.{ResultKey}
-use Rattle.ptb_chances.specs.declared.tally.Share.{Share}
+use Rattle.ptb_chances.specs.declared.tally.ResultShare.{ResultShare}
 
 abbrev pub key_result : ResultKey → RunResult
 key_result k = record { ending = k.ending; line = k.line.items }
 
-abbrev pub row_of_share : ResultKey × Share → Row
+abbrev pub row_of_share : ResultKey × ResultShare → Row
 row_of_share e = record { result = key_result e.0; chance = e.1.chance; runs = e.1.runs }
 
-abbrev pub rows_of : List (ResultKey × Share) → List Row
+abbrev pub rows_of : List (ResultKey × ResultShare) → List Row
 rows_of es = map row_of_share es
 
 -- a share has this chance and these runs more than another, or these alone
-abbrev pub Joins : Option Share → Ratio → ℕ → Share → Type 0
+abbrev pub Joins : Option ResultShare → Ratio → ℕ → ResultShare → Type 0
 Joins None chance runs new = (new.chance ≡ chance) × (new.runs ≡ runs)
 Joins (Some old) chance runs new = Equals new.chance (plus old.chance chance) × (0 < new.chance.denominator)
     × (new.runs ≡ old.runs + runs)

@@ -39,12 +39,12 @@ pub record IsStageAt (p : StoredProgram) (rules : Rules) (m : Configuration) (le
   pub same_end : SameEnd S.shown shown
 
 abbrev pub IsStageAtPlace : Stage → Place → State → Type 0
-IsStageAtPlace s place S = IsStageAt s.player s.rules place.machine (drop place.taken s.console.source.lines)
+IsStageAtPlace s place S = IsStageAt s.player s.rules place.machine (drop place.taken s.devices.source.lines)
     place.shown.items S
 
 pub record CanPlay (s : Stage) (place : Place) (plan : Answers) : Type 0 where
   pub unspent : place.machine.spent ≡ false
-  pub within : place.taken ≤ length s.console.source.lines
+  pub within : place.taken ≤ length s.devices.source.lines
   pub opens : (S : State) × IsStageAtPlace s place S × (is_open (run_from s.player s.rules S plan) ≡ true)
 
 pub record Came (p : StoredProgram) (rules : Rules) (S : State) (answers : Answers) (m : Configuration)

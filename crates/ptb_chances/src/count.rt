@@ -6,7 +6,7 @@ ghost use Rattle.ptb_chances.specs.Prelude.{lines, play, most_answers, last_line
 ghost use Rattle.ptb_chances.specs.Prelude.{IsTallied, load_left, planned, standings};
 
 use crate::last_line::last_line;
-use crate::plays::{Console, Played};
+use crate::plays::{PlayDevices, Played};
 use crate::result_key::ResultKey;
 use crate::stage::Stage;
 use crate::tally::Tally;
@@ -57,16 +57,16 @@ impl<'p, 'l> Count<'p, 'l> {
         rules: Rules,
     ) -> Result<Count<'p, 'l>, AllocError>
         ensures program { IfOk result (λ count. count.stage.player ≡ program.now) }
-        ensures lines { IfOk result (λ count. count.stage.console.source.lines ≡ lines.now) }
+        ensures lines { IfOk result (λ count. count.stage.devices.source.lines ≡ lines.now) }
         ensures rules { IfOk result (λ count. count.stage.rules ≡ rules) }
         ensures counted { IfOk result (λ count.
             IsTallied count.stage count.tally (standings count.work)) }
     {
         run_laws();
         let player = Player::new(alloc, program)?;
-        let trial = player.machine(alloc)?;
+        let machine = player.machine(alloc)?;
         let work = Worklist::begin(alloc, &player)?;
-        let console = Console {
+        let devices = PlayDevices {
             screen: TextScreen::new(alloc),
             source: Lines::new(lines),
         };
@@ -74,8 +74,8 @@ impl<'p, 'l> Count<'p, 'l> {
             stage: Stage {
                 player,
                 rules,
-                trial,
-                console,
+                machine,
+                devices,
                 before: Place::new(alloc),
             },
             work,
@@ -89,8 +89,8 @@ impl<'p, 'l> Count<'p, 'l> {
             (planned self.old.work.place plan ∷ standings self.old.work) }
         ensures player { self.new.stage.player ≡ self.old.stage.player }
         ensures rules { self.new.stage.rules ≡ self.old.stage.rules }
-        ensures lines { self.new.stage.console.source.lines
-            ≡ self.old.stage.console.source.lines }
+        ensures lines { self.new.stage.devices.source.lines
+            ≡ self.old.stage.devices.source.lines }
         ensures counted { OnOk result (IsTallied self.old.stage self.new.tally
             (standings self.new.work)) }
         ensures less { OnOk result (load_left self.old.stage (standings self.new.work)
@@ -101,7 +101,7 @@ impl<'p, 'l> Count<'p, 'l> {
         let played = self.stage.play(alloc, &self.work.place, &plan)?;
         match played {
             Played::Over(ending) => {
-                let shown = self.stage.console.screen.bytes();
+                let shown = self.stage.devices.screen.bytes();
                 add_over(alloc, ending, shown, &plan, &mut self.tally)
             }
             Played::Asks(bound) => self.work.add_plans(alloc, &plan, bound),

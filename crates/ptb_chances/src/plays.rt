@@ -36,7 +36,7 @@ fn ended(ending: Ending, bound: i16) -> Played
 
 /// What a run shows, and the lines that it takes.
 #[derive(Drop)]
-pub(crate) struct Console<'l> {
+pub(crate) struct PlayDevices<'l> {
     pub(crate) screen: TextScreen,
     pub(crate) source: Lines<'l>,
 }
@@ -53,22 +53,22 @@ pub(crate) fn play_plan(
     rules: Rules,
     machine: &mut Machine,
     answers: &[i16],
-    console: &mut Console<'_>,
+    devices: &mut PlayDevices<'_>,
 ) -> Result<Played, AllocError>
     requires unspent { machine.old.spent ≡ false }
-    requires within { console.old.source.taken ≤ length console.old.source.lines }
+    requires within { devices.old.source.taken ≤ length devices.old.source.lines }
     requires opens { (S : State) × IsStageAt player.old rules machine.old
-        (drop console.old.source.taken console.old.source.lines) console.old.screen S
+        (drop devices.old.source.taken devices.old.source.lines) devices.old.screen S
         × (is_open (run_from player.old rules S answers.now) ≡ true) }
     ensures program { player.new ≡ player.old }
-    ensures same_lines { console.new.source.lines ≡ console.old.source.lines }
+    ensures same_lines { devices.new.source.lines ≡ devices.old.source.lines }
     ensures within { IfOk result (λ _.
-        console.new.source.taken ≤ length console.old.source.lines) }
+        devices.new.source.taken ≤ length devices.old.source.lines) }
     ensures plays { IfOk result (λ played. (given : ℕ) × ((S : State) →
         IsStageAt player.old rules machine.old
-        (drop console.old.source.taken console.old.source.lines) console.old.screen S
+        (drop devices.old.source.taken devices.old.source.lines) devices.old.screen S
         → PlaysTo player.old rules S (take given answers.now) answers.now
-        machine.new (drop console.new.source.taken console.old.source.lines) console.new.screen
+        machine.new (drop devices.new.source.taken devices.old.source.lines) devices.new.screen
         played)) }
     ensures goes { IfOk result (λ played. played ≡ Played.Goes →
         (machine.new.spent ≡ false)
@@ -82,8 +82,8 @@ pub(crate) fn play_plan(
             machine,
             rules,
             &mut plan,
-            &mut console.screen,
-            &mut console.source,
+            &mut devices.screen,
+            &mut devices.source,
         ) {
             Ok(None) => {}
             Ok(Some(ending)) => return Ok(ended(ending, plan.refused_bound())),

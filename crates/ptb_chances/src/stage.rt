@@ -5,19 +5,19 @@ ghost use Rattle.ptb_chances.specs.Prelude.{is_open, State, run_from, ComesTo, G
 ghost use Rattle.ptb_chances.specs.Prelude.{IsStageAt, IsStageAtPlace, FitsProgram, QuietTurns};
 
 use crate::last_line::last_lines;
-use crate::plays::{Console, Played, play_plan};
+use crate::plays::{PlayDevices, Played, play_plan};
 use crate::worklist::{Place, Plan};
 use ptb_machine::{Ending, Machine, Player, Rules, TextScreen, run_laws};
 use std::alloc::{AllocError, Global};
 
-/// Plays a program by rules, with the input lines of its console.
+/// Plays a program by rules, with the input lines of its devices.
 #[derive(Drop)]
 pub(crate) struct Stage<'p, 'l> {
     pub(crate) player: Player<'p>,
     pub(crate) rules: Rules,
     /// It plays each plan, from where the machine of its place was.
-    pub(crate) trial: Machine,
-    pub(crate) console: Console<'l>,
+    pub(crate) machine: Machine,
+    pub(crate) devices: PlayDevices<'l>,
     /// Where the run was before the command that asks next.
     pub(crate) before: Place,
 }
@@ -28,74 +28,74 @@ impl<'p, 'l> Stage<'p, 'l> {
         requires { CanPlay self.old place.now plan.now.answers.items }
         ensures player { self.new.player ≡ self.old.player }
         ensures rules { self.new.rules ≡ self.old.rules }
-        ensures same_lines { self.new.console.source.lines ≡ self.old.console.source.lines }
+        ensures same_lines { self.new.devices.source.lines ≡ self.old.devices.source.lines }
         ensures plays { IfOk result (λ played. (given : ℕ) × ((S : State) →
             IsStageAtPlace self.old place.now S → PlaysTo self.old.player self.old.rules S
-            (take given plan.now.answers.items) plan.now.answers.items self.new.trial
-            (drop self.new.console.source.taken self.old.console.source.lines)
-            self.new.console.screen played)) }
+            (take given plan.now.answers.items) plan.now.answers.items self.new.machine
+            (drop self.new.devices.source.taken self.old.devices.source.lines)
+            self.new.devices.screen played)) }
         ensures goes { IfOk result (λ played. played ≡ Played.Goes →
-            (self.new.trial.spent ≡ false)
-            × (self.old.rules.limit - self.new.trial.steps
+            (self.new.machine.spent ≡ false)
+            × (self.old.rules.limit - self.new.machine.steps
             < self.old.rules.limit - place.now.machine.steps)) }
         ensures within { IfOk result (λ _.
-            self.new.console.source.taken ≤ length self.old.console.source.lines) }
+            self.new.devices.source.taken ≤ length self.old.devices.source.lines) }
     {
-        self.trial.restore(alloc, &place.machine)?;
-        self.console.screen = TextScreen::from_vec(Vec::from_slice(alloc, &place.shown)?);
-        self.console.source.seek(place.taken);
+        self.machine.restore(alloc, &place.machine)?;
+        self.devices.screen = TextScreen::from_vec(Vec::from_slice(alloc, &place.shown)?);
+        self.devices.source.seek(place.taken);
         play_plan(
             &mut self.player,
             self.rules,
-            &mut self.trial,
+            &mut self.machine,
             &plan.answers,
-            &mut self.console,
+            &mut self.devices,
         )
     }
 
     // Does the commands that are next and ask nothing, and notes where the run is then.
     fn advance(&mut self, alloc: Global) -> Result<(), AllocError>
-        requires fits { FitsProgram self.old.player self.old.trial }
+        requires fits { FitsProgram self.old.player self.old.machine }
         ensures player { self.new.player ≡ self.old.player }
         ensures rules { self.new.rules ≡ self.old.rules }
-        ensures console { self.new.console ≡ self.old.console }
-        ensures turns { (n : ℕ) × ((self.new.trial.steps ≡ self.old.trial.steps + n)
-            × QuietTurns self.old.player self.old.rules.limit n self.old.trial self.new.trial) }
-        ensures spent { self.new.trial.spent ≡ self.old.trial.spent }
-        ensures machine { OnOk result (self.new.before.machine ≡ self.new.trial) }
-        ensures taken { OnOk result (self.new.before.taken ≡ self.old.console.source.taken) }
-        ensures shown { OnOk result (SameEnd self.old.console.screen self.new.before.shown.items) }
+        ensures devices { self.new.devices ≡ self.old.devices }
+        ensures turns { (n : ℕ) × ((self.new.machine.steps ≡ self.old.machine.steps + n)
+            × QuietTurns self.old.player self.old.rules.limit n self.old.machine self.new.machine) }
+        ensures spent { self.new.machine.spent ≡ self.old.machine.spent }
+        ensures machine { OnOk result (self.new.before.machine ≡ self.new.machine) }
+        ensures taken { OnOk result (self.new.before.taken ≡ self.old.devices.source.taken) }
+        ensures shown { OnOk result (SameEnd self.old.devices.screen self.new.before.shown.items) }
     {
-        self.player.advance(&mut self.trial, self.rules.limit);
-        self.before.machine.save(&self.trial)?;
-        self.before.taken = self.console.source.taken();
-        self.before.shown = last_lines(alloc, self.console.screen.bytes())?;
+        self.player.advance(&mut self.machine, self.rules.limit);
+        self.before.machine.save(&self.machine)?;
+        self.before.taken = self.devices.source.taken();
+        self.before.shown = last_lines(alloc, self.devices.screen.bytes())?;
         Ok(())
     }
 
-    // Continues from where the trial is: up to the end of the run, which is given, or up to the next
+    // Continues from where its machine is: up to the end of the run, which is given, or up to the next
     // command that asks.
     fn go_on(&mut self, alloc: Global) -> Result<Option<Ending>, AllocError>
-        requires unspent { self.old.trial.spent ≡ false }
-        requires within { self.old.console.source.taken ≤ length self.old.console.source.lines }
-        requires opens { (S : State) × IsStageAt self.old.player self.old.rules self.old.trial
-            (drop self.old.console.source.taken self.old.console.source.lines)
-            self.old.console.screen S
+        requires unspent { self.old.machine.spent ≡ false }
+        requires within { self.old.devices.source.taken ≤ length self.old.devices.source.lines }
+        requires opens { (S : State) × IsStageAt self.old.player self.old.rules self.old.machine
+            (drop self.old.devices.source.taken self.old.devices.source.lines)
+            self.old.devices.screen S
             × (is_open (run_from self.old.player self.old.rules S []) ≡ true) }
         ensures player { self.new.player ≡ self.old.player }
         ensures rules { self.new.rules ≡ self.old.rules }
-        ensures same_lines { self.new.console.source.lines ≡ self.old.console.source.lines }
+        ensures same_lines { self.new.devices.source.lines ≡ self.old.devices.source.lines }
         ensures goes { IfOk result (λ over. (S : State) →
-            IsStageAt self.old.player self.old.rules self.old.trial
-            (drop self.old.console.source.taken self.old.console.source.lines)
-            self.old.console.screen S
+            IsStageAt self.old.player self.old.rules self.old.machine
+            (drop self.old.devices.source.taken self.old.devices.source.lines)
+            self.old.devices.screen S
             → GoesOn self.old.player self.old.rules S self.new.before
-            self.old.console.source.lines self.new.console.screen over) }
+            self.old.devices.source.lines self.new.devices.screen over) }
         ensures waits { IfOk result (λ over. over ≡ None →
             (self.new.before.machine.spent ≡ false)
             × (self.old.rules.limit - self.new.before.machine.steps
-            ≤ self.old.rules.limit - self.old.trial.steps)
-            × (self.new.before.taken ≤ length self.old.console.source.lines)) }
+            ≤ self.old.rules.limit - self.old.machine.steps)
+            × (self.new.before.taken ≤ length self.old.devices.source.lines)) }
     {
         run_laws();
         'commands: loop {
@@ -103,9 +103,9 @@ impl<'p, 'l> Stage<'p, 'l> {
             match play_plan(
                 &mut self.player,
                 self.rules,
-                &mut self.trial,
+                &mut self.machine,
                 &[],
-                &mut self.console,
+                &mut self.devices,
             )? {
                 Played::Over(ending) => return Ok(Some(ending)),
                 Played::Asks(_) => return Ok(None),
@@ -129,16 +129,16 @@ impl<'p, 'l> Stage<'p, 'l> {
         requires { CanPlay self.old place.now plan.now.answers.items }
         ensures player { self.new.player ≡ self.old.player }
         ensures rules { self.new.rules ≡ self.old.rules }
-        ensures same_lines { self.new.console.source.lines ≡ self.old.console.source.lines }
+        ensures same_lines { self.new.devices.source.lines ≡ self.old.devices.source.lines }
         ensures plays { IfOk result (λ played. (given : ℕ) × ((S : State) →
             IsStageAtPlace self.old place.now S → ComesTo self.old.player self.old.rules S given
-            plan.now.answers.items self.new.before self.old.console.source.lines
-            self.new.console.screen played)) }
+            plan.now.answers.items self.new.before self.old.devices.source.lines
+            self.new.devices.screen played)) }
         ensures goes { IfOk result (λ played. played ≡ Played.Goes →
             (self.new.before.machine.spent ≡ false)
             × (self.old.rules.limit - self.new.before.machine.steps
             < self.old.rules.limit - place.now.machine.steps)
-            × (self.new.before.taken ≤ length self.old.console.source.lines)) }
+            × (self.new.before.taken ≤ length self.old.devices.source.lines)) }
     {
         run_laws();
         let played = self.start(alloc, place, plan)?;

@@ -5,7 +5,7 @@ ghost use Rattle.ptb_chances.specs.Prelude.{lowest, decimals, ratio_of, field, r
 ghost use Rattle.ptb_chances.specs.Prelude.{ResultsRise, reduced, key_result, result_text, row_of_share, share_text};
 
 use crate::result_key::ResultKey;
-use crate::tally::{Share, Tally};
+use crate::tally::{ResultShare, Tally};
 use ptb_explore::word;
 use ptb_numbers::{LowestTerms, Natural};
 use std::alloc::{AllocError, Global};
@@ -39,7 +39,7 @@ fn write_number(alloc: Global, number: &Natural, text: &mut Vec<u8>) -> Result<(
 }
 
 // Writes a chance in lowest terms, and a number of runs, at the end of a text.
-fn write_share(alloc: Global, share: &Share, text: &mut Vec<u8>) -> Result<(), AllocError>
+fn write_share(alloc: Global, share: &ResultShare, text: &mut Vec<u8>) -> Result<(), AllocError>
     ensures { OnOk result (text.new.items ≡ text.old.items ++ share_text (lowest share.now.chance)
         share.now.runs) }
 {
@@ -64,7 +64,7 @@ fn write_result(alloc: Global, key: &ResultKey, text: &mut Vec<u8>) -> Result<()
 fn write_row(
     alloc: Global,
     key: &ResultKey,
-    share: &Share,
+    share: &ResultShare,
     text: &mut Vec<u8>,
 ) -> Result<(), AllocError>
     ensures { OnOk result (text.new.items

@@ -13,7 +13,7 @@ use std::marker::Model;
 
 /// The sum of the chances of some runs, and how many they are.
 #[derive(Drop)]
-pub(crate) struct Share {
+pub(crate) struct ResultShare {
     pub(crate) chance: Fraction,
     pub(crate) runs: Natural,
 }
@@ -21,7 +21,7 @@ pub(crate) struct Share {
 /// What some runs result in, with the chance of each result.
 #[derive(Drop)]
 pub(crate) struct Tally {
-    pub(crate) shares: BTreeMap<ResultKey, Share>,
+    pub(crate) shares: BTreeMap<ResultKey, ResultShare>,
 }
 
 impl Model for Tally {
@@ -37,14 +37,14 @@ impl Model for Tally {
 // A share with a chance and a number of runs more, or one that has these alone.
 fn joined(
     alloc: Global,
-    old: Option<Share>,
+    old: Option<ResultShare>,
     chance: &Fraction,
     runs: &Natural,
-) -> Result<Share, AllocError>
+) -> Result<ResultShare, AllocError>
     ensures { IfOk result (λ share. Joins old chance.now runs.now share) }
 {
     match old {
-        None => Ok(Share {
+        None => Ok(ResultShare {
             chance: chance.copy(alloc)?,
             runs: runs.copy(alloc)?,
         }),

@@ -13,8 +13,8 @@ use Rattle.ptb_command.specs.Configuration.{Configuration}
 use Rattle.ptb_machine.specs.Play.{play}
 use Rattle.ptb_answers.specs.Asked.{answers_in, bounds_in}
 use Rattle.ptb_explore.specs.declared.copies.KeptCopy.{KeptCopy}
-use Rattle.ptb_explore.specs.declared.plan.Position.{Position}
-use Rattle.ptb_explore.specs.declared.plan.Position.TheVariants.{AtStart, AtRun, AtEnd}
+use Rattle.ptb_explore.specs.declared.plan.ListingPosition.{ListingPosition}
+use Rattle.ptb_explore.specs.declared.plan.ListingPosition.TheVariants.{AtStart, AtRun, AtEnd}
 use Rattle.ptb_explore.specs.declared.report.Report.{Report}
 use Rattle.ptb_explore.specs.Copies.{machine_of, taken_choices, AreCopies, ArePlaces, Agrees}
 use Rattle.ptb_explore.specs.Copies.{kept_runs, kept_steps, WentBack, last_steps, PlaysOn}
@@ -29,7 +29,7 @@ use Rattle.ptb_explore.proofs.RaisedAnswers.{plan_begins}
 use Rattle.ptb_explore.proofs.RunPrefix.{prefix_to}
 
 -- the plan begins as the run does at which the listing is
-pub next_agrees : {A W : Type 0} (play : Answers → Outcome A W) (under : Answers) (position : Position)
+pub next_agrees : {A W : Type 0} (play : Answers → Outcome A W) (under : Answers) (position : ListingPosition)
     (answers plan : Answers) (bounded : List ℤ) (i : ℕ)
     → IsPosition play under position answers bounded → PlansNext under position answers bounded plan (Some i)
     → Agrees play i plan answers bounded
@@ -44,33 +44,34 @@ front_none [] ys e = refl
 front_none (x ∷ xs) ys e = absurd cc
 
 module _ (p : StoredProgram) (input : List (List ℕ)) (rules : Rules) where
-  pub position_copies : (position : Position) (r : Report) (ks : List KeptCopy)
+  pub position_copies : (position : ListingPosition) (r : Report) (ks : List KeptCopy)
       → AreCopiesAt p input rules position r ks
       → AreCopies p input rules (answers_in r.asked.items) r.transcript.items ks
   position_copies AtStart r ks h = kept_none p input rules (answers_in r.asked.items) r.transcript.items ks h
   position_copies AtRun r ks h = h
   position_copies AtEnd r ks h = kept_none p input rules (answers_in r.asked.items) r.transcript.items ks h
 
-  pub none_at : (position : Position) (r : Report) (ks : List KeptCopy) → ks ≡ []
+  pub none_at : (position : ListingPosition) (r : Report) (ks : List KeptCopy) → ks ≡ []
       → AreCopiesAt p input rules position r ks
   none_at AtStart r ks e = e
   none_at AtRun r ks e = kept_none p input rules (answers_in r.asked.items) r.transcript.items ks e
   none_at AtEnd r ks e = e
 
   -- what contracts see of them
-  pub kept_at : (position : Position) (r : Report) (ks : List KeptCopy) → AreCopiesAt p input rules position r ks
+  pub kept_at : (position : ListingPosition) (r : Report) (ks : List KeptCopy) → AreCopiesAt p input rules position r ks
       → AreKeptAt (front_at position (answers_in r.asked.items)) (kept_runs (answers_in r.asked.items) ks)
   kept_at AtStart r ks h = ap (kept_runs (answers_in r.asked.items)) h
   kept_at AtRun r ks h = kept_beginnings p input rules (answers_in r.asked.items) r.transcript.items ks h
   kept_at AtEnd r ks h = ap (kept_runs (answers_in r.asked.items)) h
 
-  pub places_at : (position : Position) (r : Report) (ks : List KeptCopy) → AreCopiesAt p input rules position r ks
+  pub places_at : (position : ListingPosition) (r : Report) (ks : List KeptCopy)
+      → AreCopiesAt p input rules position r ks
       → ArePlaces p input rules (kept_runs (answers_in r.asked.items) ks)
   places_at position r ks h = kept_places p input rules (answers_in r.asked.items) r.transcript.items 0 0 ks
       (position_copies position r ks h)
 
   -- what is left of the copies ends with the newest that the next answers begin with
-  next_steps : (under : Answers) (position : Position) (r : Report) (plan ones answers : Answers) (i : ℕ)
+  next_steps : (under : Answers) (position : ListingPosition) (r : Report) (plan ones answers : Answers) (i : ℕ)
       (old left : List KeptCopy)
       → PlansNext under position (answers_in r.asked.items) (bounds_in r.asked.items) plan (Some i)
       → AreCopiesAt p input rules position r old → answers ≡ plan ++ ones → WentBack i old left
@@ -86,7 +87,7 @@ module _ (p : StoredProgram) (input : List (List ℕ)) (rules : Rules) where
   next_steps under AtEnd r plan ones answers i old left n h e back = absurd n
 
   -- so many steps are played
-  pub next_played : (under : Answers) (position : Position) (r : Report) (plan ones answers : Answers) (i : ℕ)
+  pub next_played : (under : Answers) (position : ListingPosition) (r : Report) (plan ones answers : Answers) (i : ℕ)
       (old : List KeptCopy) (played steps new : ℕ)
       → PlansNext under position (answers_in r.asked.items) (bounds_in r.asked.items) plan (Some i)
       → AreCopiesAt p input rules position r old → answers ≡ plan ++ ones → PlaysOn i old played steps new

@@ -18,7 +18,7 @@ mod Attempt
 mod RecorderPlans
 mod Recorded
 mod Given
-mod Trial
+mod PlayedRecorders
 mod Limits
 mod RunPrefix
 mod Keep

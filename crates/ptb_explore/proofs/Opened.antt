@@ -23,8 +23,8 @@ use Rattle.ptb_explore.specs.Explorations.{AreKeptAt, Exploration, IsAdded, IsPl
 use Rattle.ptb_explore.specs.MarkedRuns.{IsMarkedBeginning, IsMarkedRun}
 use Rattle.ptb_explore.specs.Mismatch.{IsItemMismatch}
 use Rattle.ptb_explore.specs.Openings.{IsPlayedBefore}
-use Rattle.ptb_explore.specs.declared.plan.Position.{Position}
-use Rattle.ptb_explore.specs.declared.plan.Position.TheVariants.{AtRun}
+use Rattle.ptb_explore.specs.declared.plan.ListingPosition.{ListingPosition}
+use Rattle.ptb_explore.specs.declared.plan.ListingPosition.TheVariants.{AtRun}
 use Rattle.ptb_explore.specs.Plans.{IsPosition}
 use Rattle.ptb_explore.specs.RunTree.{At, Front, IsNextRun, Start, begins_with}
 use Rattle.ptb_explore.proofs.Keep.{kept_beginnings}
@@ -141,7 +141,7 @@ same_game old new same =
     rw (ap (λ (r : Runner). r.player) same, ap (λ (r : Runner). r.lines.now) same, ap (λ (r : Runner). r.rules) same)
     refl
 
-pub stays : (old new : Runner) → IsSameGame old new → (under : Answers) (position : Position)
+pub stays : (old new : Runner) → IsSameGame old new → (under : Answers) (position : ListingPosition)
     → new.report.asked.items ≡ old.report.asked.items
     → IsPosition (game_of old) under position (answers_in old.report.asked.items) (bounds_in old.report.asked.items)
     → IsPosition (game_of new) under position (answers_in new.report.asked.items) (bounds_in new.report.asked.items)

@@ -11,8 +11,8 @@ use Rattle.std.proofs.lemmas.List.{length-take-le}
 use Rattle.ptb_answers.specs.Outcome.{Answers, Outcome, Asks, IsReader, is_open, is_answer}
 use Rattle.ptb_answers.specs.Outcome.{bound_of, bounds, bounds_after}
 use Rattle.ptb_explore.specs.RunTree.{Front, Start, At, End, IsRun, IsNextRun, IsLast, Before, begins_with}
-use Rattle.ptb_explore.specs.declared.plan.Position.{Position}
-use Rattle.ptb_explore.specs.declared.plan.Position.TheVariants.{AtStart, AtRun, AtEnd}
+use Rattle.ptb_explore.specs.declared.plan.ListingPosition.{ListingPosition}
+use Rattle.ptb_explore.specs.declared.plan.ListingPosition.TheVariants.{AtStart, AtRun, AtEnd}
 use Rattle.ptb_explore.specs.Plans.{IsPlan, IsLastBelow, PlansNext, IsPosition, front_at, PlanEndsWith}
 use Rattle.ptb_explore.proofs.Order.{before_from_differ, before_front, begins_from, begins_is}
 use Rattle.ptb_explore.proofs.Tree.{run_asks}
@@ -152,7 +152,7 @@ module _ {A W : Type 0} (play : Answers → Outcome A W) (most : ℕ) (reads : I
 
   -- ---- the plan that follows where a listing is
 
-  pub next_plan : (under : Answers) (position : Position) (answers plan : Answers) (bounded : List ℤ) (i : ℕ)
+  pub next_plan : (under : Answers) (position : ListingPosition) (answers plan : Answers) (bounded : List ℤ) (i : ℕ)
       → IsPosition play under position answers bounded → PlansNext under position answers bounded plan (Some i)
       → IsPlan play under (front_at position answers) plan
   next_plan under AtStart answers plan bounded i s p = rw p.1 (start_plan under s)
@@ -162,7 +162,7 @@ module _ {A W : Type 0} (play : Answers → Outcome A W) (most : ℕ) (reads : I
       (raise_plan answers i s.0 last.within last.below last.last))
   next_plan under AtEnd answers plan bounded i s p = absurd p
 
-  pub last_plan : (under : Answers) (position : Position) (answers plan : Answers) (bounded : List ℤ)
+  pub last_plan : (under : Answers) (position : ListingPosition) (answers plan : Answers) (bounded : List ℤ)
       → IsPosition play under position answers bounded → PlansNext under position answers bounded plan None
       → IsLast play under (front_at position answers)
   last_plan under AtStart answers plan bounded s p = absurd p

@@ -21,7 +21,7 @@ use Rattle.ptb_explore.specs.PlannedPlays.{IsRunPrefix}
 use Rattle.ptb_explore.specs.Recorders.{recorder_choices, recorded}
 use Rattle.ptb_explore.proofs.Recorded.{fresh_bounds}
 use Rattle.ptb_explore.proofs.RunPrefix.{run_prefix_at_first}
-use Rattle.ptb_explore.proofs.Trial.{fresh_plan}
+use Rattle.ptb_explore.proofs.PlayedRecorders.{fresh_plan}
 
 -- what is planned is still the plan
 pub same_plan : (r s : Recorder) → IsFresh r → (recorded s) ≡ (recorded r) → s.planned ≡ r.planned
@@ -41,16 +41,16 @@ no_copies most old left o none back kept same =
     (is, (subst (GoesBack most old) (sym is) h.0, inl is))
 
 pub begun_prefix : {B E : Type 0} (r : Result B E) (at : B → Configuration) (p : StoredProgram) (source : LineList)
-    (rules : Rules) (trial : Recorder) (fresh : IsFresh trial) (begins : source.taken ≡ 0) (shown : List ℕ)
+    (rules : Rules) (chooser : Recorder) (fresh : IsFresh chooser) (begins : source.taken ≡ 0) (shown : List ℕ)
     (cut : shown ≡ [])
     → IfOk r (λ b. (input : List (List ℕ)) (choose : Option ℤ) → Represents p.lines (at b) (first_state p input choose))
-    → IfOk r (λ b. IsRunPrefix p source.lines rules (recorder_choices trial) shown (drop source.taken source.lines)
+    → IfOk r (λ b. IsRunPrefix p source.lines rules (recorder_choices chooser) shown (drop source.taken source.lines)
     (at b))
-begun_prefix r at p source rules trial fresh begins shown cut =
-    let taken : (recorder_choices trial).taken ≡ [] =
-    ap (λ (bs : List ℤ). take (length bs) (recorded trial)) (fresh_bounds trial fresh) in
-    let kept : (recorder_choices trial).kept ≡ Some [] = ap Some (fresh_bounds trial fresh) in
-    IfOk-weaker r _ _ (λ b first. rw (begins, cut) (run_prefix_at_first p source.lines rules (recorder_choices trial)
+begun_prefix r at p source rules chooser fresh begins shown cut =
+    let taken : (recorder_choices chooser).taken ≡ [] =
+    ap (λ (bs : List ℤ). take (length bs) (recorded chooser)) (fresh_bounds chooser fresh) in
+    let kept : (recorder_choices chooser).kept ≡ Some [] = ap Some (fresh_bounds chooser fresh) in
+    IfOk-weaker r _ _ (λ b first. rw (begins, cut) (run_prefix_at_first p source.lines rules (recorder_choices chooser)
     (at b) taken kept (first source.lines rules.choose)))
 
 pub begun_steps : {B E : Type 0} (r : Result B E) (at : B → Configuration) (p : StoredProgram) (kept : List KeptCopy)

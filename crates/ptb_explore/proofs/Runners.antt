@@ -13,37 +13,39 @@ use Rattle.ptb_explore.specs.declared.runner.Runner.{Runner}
 use Rattle.ptb_explore.specs.Copies.{AreCopies, more_played, play_limit}
 use Rattle.ptb_explore.specs.Explorations.{IsAdded, IsPlayed, IsSameGame}
 
--- a step leaves all but the trial and the copies
+-- a step leaves all but the chooser and the copies
 pub stepped : (r s : Runner) (player : StoredProgram) (t u : Recorder) (c d : Copies) → player ≡ r.player
-    → r ≡ record s { trial = t; copies = c }
-    → record r { player = player; trial = u; copies = d } ≡ record s { trial = u; copies = d }
-stepped r s player t u c d same h = ap (λ q. record r { player = q; trial = u; copies = d }) same
-    ∙ ap (λ (q : Runner). record q { trial = u; copies = d }) h
+    → r ≡ record s { chooser = t; copies = c }
+    → record r { player = player; chooser = u; copies = d } ≡ record s { chooser = u; copies = d }
+stepped r s player t u c d same h = ap (λ q. record r { player = q; chooser = u; copies = d }) same
+    ∙ ap (λ (q : Runner). record q { chooser = u; copies = d }) h
 
 -- so it plays the same,
-pub still_same : (n s : Runner) (x : Report) → n ≡ record s { trial = n.trial; report = x; copies = n.copies }
+pub still_same : (n s : Runner) (x : Report) → n ≡ record s { chooser = n.chooser; report = x; copies = n.copies }
     → IsSameGame s n
 still_same n s x h =
-    h ∙ ap₂ (λ y k. record s { trial = n.trial; report = y; copies = n.copies; played = k })
+    h ∙ ap₂ (λ y k. record s { chooser = n.chooser; report = y; copies = n.copies; played = k })
     (sym (ap (λ (r : Runner). r.report) h)) (sym (ap (λ (r : Runner). r.played) h))
 
 -- also where the report is made, and commands are counted
 pub reported : (n s : Runner) (x y : Report) (d : Copies) (k : ℕ)
-    → n ≡ record s { trial = n.trial; report = x; copies = n.copies }
-    → record n { report = y; copies = d; played = k } ≡ record s { trial = n.trial; report = y; copies = d; played = k }
+    → n ≡ record s { chooser = n.chooser; report = x; copies = n.copies }
+    → record n { report = y; copies = d; played = k }
+    ≡ record s { chooser = n.chooser; report = y; copies = d; played = k }
 reported n s x y d k h = ap (λ (r : Runner). record r { report = y; copies = d; played = k }) h
 
 pub counted : (n r s : Runner) (x y : Report) (d : Copies)
-    → n ≡ record r { trial = n.trial; copies = n.copies; played = n.played }
-    → r ≡ record s { trial = r.trial; report = x; copies = r.copies }
-    → record n { report = y; copies = d } ≡ record s { trial = n.trial; report = y; copies = d; played = n.played }
+    → n ≡ record r { chooser = n.chooser; copies = n.copies; played = n.played }
+    → r ≡ record s { chooser = r.chooser; report = x; copies = r.copies }
+    → record n { report = y; copies = d } ≡ record s { chooser = n.chooser; report = y; copies = d; played = n.played }
 counted n r s x y d h g =
     ap (λ (q : Runner). record q { report = y; copies = d }) h
-    ∙ ap (λ (q : Runner). record q { trial = n.trial; report = y; copies = d; played = n.played }) g
+    ∙ ap (λ (q : Runner). record q { chooser = n.chooser; report = y; copies = d; played = n.played }) g
 
 pub changed : (n s : Runner) (t : Recorder) (y : Report) (d : Copies) → IsSameGame s n
-    → record n { trial = t; report = y; copies = d } ≡ record s { trial = t; report = y; copies = d; played = n.played }
-changed n s t y d h = ap (λ (q : Runner). record q { trial = t; report = y; copies = d; played = n.played }) h
+    → record n { chooser = t; report = y; copies = d }
+    ≡ record s { chooser = t; report = y; copies = d; played = n.played }
+changed n s t y d h = ap (λ (q : Runner). record q { chooser = t; report = y; copies = d; played = n.played }) h
 
 -- ---- the same program, lines and rules
 

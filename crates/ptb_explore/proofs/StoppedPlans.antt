@@ -10,8 +10,8 @@ use Rattle.std.proofs.lemmas.List.{length-replicate, take-append-drop, take-appe
 use Rattle.ptb_answers.specs.Outcome.{Answers, Outcome, Done, Asks, Out, IsReader, bounds, is_answer, is_open, is_whole}
 use Rattle.ptb_command.specs.declared.ending.Ending.{Ending}
 use Rattle.ptb_machine.specs.Play.{Finish}
-use Rattle.ptb_explore.specs.declared.plan.Position.{Position}
-use Rattle.ptb_explore.specs.declared.plan.Position.TheVariants.{AtStart, AtRun, AtEnd}
+use Rattle.ptb_explore.specs.declared.plan.ListingPosition.{ListingPosition}
+use Rattle.ptb_explore.specs.declared.plan.ListingPosition.TheVariants.{AtStart, AtRun, AtEnd}
 use Rattle.ptb_explore.specs.declared.recorder.Recorder.{Recorder}
 use Rattle.ptb_explore.specs.Beginnings.{stopped}
 use Rattle.ptb_explore.specs.Copies.{Agrees}
@@ -23,7 +23,7 @@ use Rattle.ptb_explore.proofs.Attempt.{all_ones, out_closes, run_closes}
 use Rattle.ptb_explore.proofs.RaisedAnswers.{plan_begins}
 use Rattle.ptb_explore.proofs.StoppedPlays.{asking_run, bounds_within, open_within, run_within, whole_run}
 use Rattle.ptb_explore.proofs.Tree.{run_asks}
-use Rattle.ptb_explore.proofs.Trial.{over_or_outside}
+use Rattle.ptb_explore.proofs.PlayedRecorders.{over_or_outside}
 
 -- ---- the first answers of a plan that stops
 
@@ -190,7 +190,7 @@ module _ (play : Answers → Outcome Finish (List ℕ)) (most : ℕ) (reads : Is
 
 module _ (play : Answers → Outcome Finish (List ℕ)) (most : ℕ) (reads : IsReader play most) (n : ℕ) where
   -- it has at most n answers, and those that it has in common with the list before
-  pub plan_fits : (position : Position) (answers plan : Answers) (bounded : List ℤ) (i : ℕ)
+  pub plan_fits : (position : ListingPosition) (answers plan : Answers) (bounded : List ℤ) (i : ℕ)
       → IsPosition (stopped n play) [] position answers bounded → PlansNext [] position answers bounded plan (Some i)
       → (length plan ≤ n) × (i ≤ length plan)
   plan_fits AtStart answers plan bounded i s p = let none : length plan ≡ 0 = ap length p.1 in
@@ -204,7 +204,7 @@ module _ (play : Answers → Outcome Finish (List ℕ)) (most : ℕ) (reads : Is
       (omega (arith, within, few, front, size, both), omega (arith, within, front, size, both))
   plan_fits AtEnd answers plan bounded i s p = absurd p
 
-  pub beginning_agrees : (position : Position) (answers plan : Answers) (bounded : List ℤ) (i : ℕ)
+  pub beginning_agrees : (position : ListingPosition) (answers plan : Answers) (bounded : List ℤ) (i : ℕ)
       → IsPosition (stopped n play) [] position answers bounded → PlansNext [] position answers bounded plan (Some i)
       → Agrees play i plan answers bounded
   beginning_agrees AtStart answers plan bounded i s p = rw p.0 (omega arith, refl, refl)

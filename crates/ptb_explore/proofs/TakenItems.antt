@@ -19,7 +19,7 @@ use Rattle.ptb_explore.specs.PlannedPlays.{Holds, PlayEnds, NextIsOutside}
 use Rattle.ptb_explore.specs.Recorders.{recorder_choices, given_bounds, recorded}
 use Rattle.ptb_explore.proofs.Mismatches.{HasBounds, answers_length, answers_split, answers_take}
 use Rattle.ptb_explore.proofs.Mismatches.{no_question, out_of_range, split_there, take_twice}
-use Rattle.ptb_explore.proofs.Trial.{begun_opens, open_ends, over_or_outside}
+use Rattle.ptb_explore.proofs.PlayedRecorders.{begun_opens, open_ends, over_or_outside}
 
 -- the plan of the recorder is the answers of a list, and it has come to this ending
 module _ (play : Answers → Outcome Finish (List ℕ)) (r : Recorder) (steps : ℕ) (shown : List ℕ) (most : ℕ)

@@ -9,8 +9,8 @@ use Rattle.ptb_machine.specs.Laws.{RunLaws}
 use Rattle.ptb_machine.specs.Questions.{most_answers}
 use Rattle.ptb_text.specs.declared.device_fault.DeviceFault.{DeviceFault}
 use Rattle.ptb_text.specs.declared.device_fault.DeviceFault.TheVariants as next
-use Rattle.ptb_explore.specs.declared.plan.Position.{Position}
-use Rattle.ptb_explore.specs.declared.plan.Position.TheVariants.{AtStart, AtRun, AtEnd}
+use Rattle.ptb_explore.specs.declared.plan.ListingPosition.{ListingPosition}
+use Rattle.ptb_explore.specs.declared.plan.ListingPosition.TheVariants.{AtStart, AtRun, AtEnd}
 use Rattle.ptb_explore.specs.Beginnings.{Splitting, beginning_line, split_play, stopped}
 use Rattle.ptb_explore.specs.Listing.{fault_after, NextWrites, WritesList, WritesRuns}
 use Rattle.ptb_explore.specs.Plans.{IsPosition, front_at}
@@ -25,7 +25,7 @@ answers_are : (answers u : Answers) → ◌≡◌ {A = Front} (At answers) (At u
 answers_are answers u e = cc
 
 -- where the search is at a list, the bounds that it has are those of its answers
-bounds_at : (laws : RunLaws) (v : Splitting) (position : Position) (answers u : Answers) (bounded : List ℤ)
+bounds_at : (laws : RunLaws) (v : Splitting) (position : ListingPosition) (answers u : Answers) (bounded : List ℤ)
     → IsPosition (stopped v.most (split_play v)) [] position answers bounded → front_at position answers ≡ At u
     → bounded ≡ bounds (split_play v) u
 bounds_at laws v AtStart answers u bounded s e = absurd cc
@@ -38,7 +38,7 @@ bounds_at laws v AtEnd answers u bounded s e = absurd cc
 
 -- s is the search, and v is how the code has it
 pub bounds_of_search : (laws : RunLaws) (s v : Splitting) → v ≡ s
-    → (position : Position) (answers u : Answers) (bounded : List ℤ)
+    → (position : ListingPosition) (answers u : Answers) (bounded : List ℤ)
     → IsPosition (stopped v.most (split_play v)) [] position answers bounded → v.front ≡ front_at position answers
     → s.front ≡ At u
     → bounded ≡ bounds (split_play s) u

@@ -11,29 +11,33 @@
 --     HasRunCopies old new         the copies are of the run of the report
 --     NextLeaves old result new    what the search for the next run leaves
 --     Resumes r common             a plan can be played on from a copy
+--     CanPlayOn r m shown source   and from where a machine is
 --     AreCopiesAt ..               the copies are of the run at which an explorer is
 --     AreKeptAt f runs             the same, of what contracts see of them
 --     IsPlayed play a n            the run of these answers has so many steps
 --     IsAdded play a old new       its steps were added to those played
 --     NextPlays ..                 how many steps were played after the next run
-use Rattle.std.specs.Prelude.{◌≡◌, ℕ, ◌+◌, ◌-◌, ◌<◌, ◌≤◌, List, [], Bool, true, false, Option, Some}
-use Rattle.std.specs.Prelude.{None, Result, Ok, Err}
+use Rattle.std.specs.Prelude.{◌≡◌, ℕ, ◌+◌, ◌-◌, ◌<◌, ◌≤◌, List, [], length, drop, Bool, true, false, Option}
+use Rattle.std.specs.Prelude.{Some, None, Result, Ok, Err}
 use Rattle.std.specs.declared.alloc.AllocError.{AllocError}
 use Rattle.std.specs.Borrow.{Bor}
 use Rattle.ptb_text.specs.Statements.{StoredProgram}
 use Rattle.ptb_answers.specs.Outcome.{Answers, Outcome, Done, bounds}
 use Rattle.ptb_answers.specs.declared.rules.Rules.{Rules}
+use Rattle.ptb_command.specs.Configuration.{Configuration}
+use Rattle.ptb_devices.specs.Sources.{LineList}
 use Rattle.ptb_machine.specs.Play.{Finish, play}
 use Rattle.ptb_machine.specs.Questions.{most_answers}
 use Rattle.ptb_answers.specs.Asked.{answers_in, bounds_in}
 use Rattle.ptb_explore.specs.declared.copies.KeptCopy.{KeptCopy}
-use Rattle.ptb_explore.specs.declared.plan.Position.{Position}
-use Rattle.ptb_explore.specs.declared.plan.Position.TheVariants.{AtStart, AtRun, AtEnd}
+use Rattle.ptb_explore.specs.declared.plan.ListingPosition.{ListingPosition}
+use Rattle.ptb_explore.specs.declared.plan.ListingPosition.TheVariants.{AtStart, AtRun, AtEnd}
 use Rattle.ptb_explore.specs.declared.report.Report.{Report}
 use Rattle.ptb_explore.specs.declared.runner.Runner.{Runner}
 use Rattle.ptb_explore.specs.Copies.{KeptRun, Agrees, AreCopies, AreBeginnings, kept_steps, more_played, play_limit}
+use Rattle.ptb_explore.specs.PlannedPlays.{IsRunPrefix}
 use Rattle.ptb_explore.specs.Plans.{IsFresh}
-use Rattle.ptb_explore.specs.Recorders.{recorded}
+use Rattle.ptb_explore.specs.Recorders.{recorded, recorder_choices}
 use Rattle.ptb_explore.specs.RunTree.{Front, Start, At, End, IsNextRun, IsLast}
 
 -- ---- explorers
@@ -78,7 +82,7 @@ game_of r = play r.player r.lines.now r.rules
 
 abbrev pub IsSameGame : Runner → Runner → Type 0
 IsSameGame old new = new ≡ record old {
-  trial = new.trial;
+  chooser = new.chooser;
   report = new.report;
   copies = new.copies;
   played = new.played;
@@ -104,11 +108,19 @@ HasRunCopies old new = AreCopies old.player old.lines.now old.rules (answers_in 
 
 -- a plan can be played on from a copy: it begins with as many answers of the report as `common` says
 pub record Resumes (r : Runner) (common : ℕ) : Type 0 where
-  pub fresh : IsFresh r.trial
-  pub agrees : Agrees (game_of r) common (recorded r.trial) (answers_in r.report.asked.items)
-      (bounds_in r.trial.asked.items)
+  pub fresh : IsFresh r.chooser
+  pub agrees : Agrees (game_of r) common (recorded r.chooser) (answers_in r.report.asked.items)
+      (bounds_in r.chooser.asked.items)
   pub copies : AreCopies r.player r.lines.now r.rules (answers_in r.report.asked.items) r.report.transcript.items
       r.copies.kept.items
+
+-- the run of its plan has come to where the machine is, and the copies are of that run
+pub record CanPlayOn (r : Runner) (m : Configuration) (shown : List ℕ) (source : LineList) : Type 0 where
+  pub unspent : m.spent ≡ false
+  pub within : source.taken ≤ length source.lines
+  pub run_prefix : IsRunPrefix r.player source.lines r.rules (recorder_choices r.chooser) shown
+      (drop source.taken source.lines) m
+  pub copies : AreCopies r.player source.lines r.rules (recorder_choices r.chooser).taken shown r.copies.kept.items
 
 -- ---- what is left
 
@@ -138,7 +150,7 @@ NextLeaves old (Err e) new = RefusedNext old new
 -- ---- copies
 
 -- where it is at no run there are none
-abbrev pub AreCopiesAt : StoredProgram → List (List ℕ) → Rules → Position → Report → List KeptCopy → Type 0
+abbrev pub AreCopiesAt : StoredProgram → List (List ℕ) → Rules → ListingPosition → Report → List KeptCopy → Type 0
 AreCopiesAt p input rules AtStart r ks = ks ≡ []
 AreCopiesAt p input rules AtRun r ks = AreCopies p input rules (answers_in r.asked.items) r.transcript.items ks
 AreCopiesAt p input rules AtEnd r ks = ks ≡ []

@@ -7,7 +7,7 @@
 --                                             item is missing
 --     TakesItems play list bounds n           the first n items are taken, and the first of the bounds are those of
 --                                             their questions
---     Explains why trial ending found         what was found is why a play with the list came to this ending
+--     Explains why chooser ending found       what was found is why a play with the list came to this ending
 --     MismatchLaws play                       there is one mismatch exactly where a list is no run, or begins none
 use Rattle.std.specs.Prelude.{◌≡◌, ℕ, ◌+◌, ◌≤◌, List, ◌∷◌, ◌++◌, length, take, true, false, Option, IfSome, ℤ, ◌↔◌}
 use Rattle.ptb_answers.specs.Outcome.{Answers, Outcome, Asks, IsReader, is_answer, is_open, bounds}
@@ -111,6 +111,6 @@ pub record MismatchLaws {A W : Type 0} (play : Answers → Outcome A W) : Type 0
 -- what was found says why, of each game in which the list's answers came to this ending
 abbrev pub Explains : ((Answers → Outcome Finish (List ℕ)) → Mismatch → Type 0) → Recorder → Ending → Option Mismatch
     → Type 0
-Explains Why trial ending found = (game : Answers → Outcome Finish (List ℕ)) (most steps : ℕ) (shown : List ℕ)
-    → IsReader game most → PlayEnds game (recorder_choices trial) trial.refused_bound steps shown ending
+Explains Why chooser ending found = (game : Answers → Outcome Finish (List ℕ)) (most steps : ℕ) (shown : List ℕ)
+    → IsReader game most → PlayEnds game (recorder_choices chooser) chooser.refused_bound steps shown ending
     → IfSome found (Why game)

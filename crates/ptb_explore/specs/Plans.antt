@@ -21,8 +21,8 @@ use Rattle.std.specs.List.{AllByRecursion}
 use Rattle.ptb_answers.specs.Outcome.{Answers, Outcome, Done, is_open, bounds}
 use Rattle.ptb_answers.specs.declared.form.Marked.{Marked}
 use Rattle.ptb_explore.specs.Recorders.{given_bounds, recorded}
-use Rattle.ptb_explore.specs.declared.plan.Position.{Position}
-use Rattle.ptb_explore.specs.declared.plan.Position.TheVariants.{AtStart, AtRun, AtEnd}
+use Rattle.ptb_explore.specs.declared.plan.ListingPosition.{ListingPosition}
+use Rattle.ptb_explore.specs.declared.plan.ListingPosition.TheVariants.{AtStart, AtRun, AtEnd}
 use Rattle.ptb_explore.specs.declared.recorder.Recorder.{Recorder}
 use Rattle.ptb_explore.specs.MarkedRuns.{states_bounds}
 use Rattle.ptb_explore.specs.RunTree.{Front, Start, At, End, IsRun, IsNextRun, begins_with}
@@ -52,7 +52,7 @@ abbrev pub AreAtBounds : ℕ → Answers → List ℤ → Type 0
 AreAtBounds floor answers bounds = (k : ℕ) → floor ≤ k → k < length answers → IsAtBound answers bounds k
 
 -- with how many answers of the run the plan begins; none where no run is left
-abbrev pub PlansNext : Answers → Position → Answers → List ℤ → Answers → Option ℕ → Type 0
+abbrev pub PlansNext : Answers → ListingPosition → Answers → List ℤ → Answers → Option ℕ → Type 0
 PlansNext under AtStart answers bounds plan None = ⊥
 PlansNext under AtStart answers bounds plan (Some i) = (i ≡ 0) × (plan ≡ under)
 PlansNext under AtRun answers bounds plan None = AreAtBounds (length under) answers bounds
@@ -61,19 +61,19 @@ PlansNext under AtRun answers bounds plan (Some i) = IsLastBelow (length under) 
 PlansNext under AtEnd answers bounds plan None = Unit {0}
 PlansNext under AtEnd answers bounds plan (Some i) = ⊥
 
-abbrev pub HasPlan : Answers → Position → Answers → List ℤ → Type 0
+abbrev pub HasPlan : Answers → ListingPosition → Answers → List ℤ → Type 0
 HasPlan under position answers bounds = (plan : Answers) × (i : ℕ)
     × PlansNext under position answers bounds plan (Some i)
 
 -- ---- where a listing is
 
-abbrev pub front_at : Position → Answers → Front
+abbrev pub front_at : ListingPosition → Answers → Front
 front_at AtStart answers = Start
 front_at AtRun answers = At answers
 front_at AtEnd answers = End
 
 -- each run of the listing begins with `under`
-abbrev pub IsPosition : {A W : Type 0} → (Answers → Outcome A W) → Answers → Position → Answers → List ℤ → Type 0
+abbrev pub IsPosition : {A W : Type 0} → (Answers → Outcome A W) → Answers → ListingPosition → Answers → List ℤ → Type 0
 IsPosition play under AtStart answers their_bounds = is_open (play under) ≡ true
 IsPosition play under AtRun answers their_bounds = IsRun play answers × (their_bounds ≡ bounds play answers)
     × (begins_with answers under ≡ true)

@@ -1,11 +1,11 @@
 // This file plays a plan up to the questions of a list that splits runs, by `find_beginning`.
 
 ghost use Rattle.std.specs.Prelude.{◌≡◌, ◌≤◌, Ok, [], true, false, length, IfOk, OnOk, OnErr, IsTrue};
-ghost use Rattle.ptb_explore.specs.Prelude.{is_open, answers_in, bounds_in, recorded, stopped, FindsBeginning, Agrees};
-ghost use Rattle.ptb_explore.specs.Prelude.{AreCopies, PlaysOn, kept_runs, AreCopiesAt, HasRunCopies, IsSameGame};
-ghost use Rattle.ptb_explore.specs.Prelude.{NextPlays, game_of, PlanEndsWith, IsFresh, IsPosition, front_at, IsLast};
+ghost use Rattle.ptb_explore.specs.Prelude.{is_open, answers_in, bounds_in, recorded, stopped, FindsBeginning};
+ghost use Rattle.ptb_explore.specs.Prelude.{Resumes, PlaysOn, kept_runs, AreCopiesAt, HasRunCopies, IsSameGame};
+ghost use Rattle.ptb_explore.specs.Prelude.{NextPlays, game_of, PlanEndsWith, IsPosition, front_at, IsLast};
 
-use crate::plan::{Position, plan_next};
+use crate::plan::{ListingPosition, plan_next};
 use crate::runner::Runner;
 use ptb_machine::run_laws;
 use std::alloc::AllocError;
@@ -14,19 +14,14 @@ use std::alloc::AllocError;
 // report has the answers that were taken then, and their bounds. The first answers of the plan are
 // those of the report before, as many as `common` says.
 fn play_beginning(runner: &mut Runner, common: usize, most: usize) -> Result<(), AllocError>
-    requires fresh { IsFresh runner.old.trial }
-    requires within { length (recorded runner.old.trial) ≤ most }
-    requires common { common ≤ length (recorded runner.old.trial) }
+    requires resumes { Resumes runner.old common }
+    requires within { length (recorded runner.old.chooser) ≤ most }
+    requires common { common ≤ length (recorded runner.old.chooser) }
     requires opens { is_open (stopped most (game_of runner.old)
-        (recorded runner.old.trial)) ≡ true }
-    requires agrees { Agrees (game_of runner.old) common (recorded runner.old.trial)
-        (answers_in runner.old.report.asked.items) (bounds_in runner.old.trial.asked.items) }
-    requires copies { AreCopies runner.old.player runner.old.lines.now runner.old.rules
-        (answers_in runner.old.report.asked.items) runner.old.report.transcript.items
-        runner.old.copies.kept.items }
+        (recorded runner.old.chooser)) ≡ true }
     ensures same { IsSameGame runner.old runner.new }
     ensures ends { OnOk result (PlanEndsWith (stopped most (game_of runner.old))
-        (recorded runner.old.trial) (answers_in runner.new.report.asked.items)
+        (recorded runner.old.chooser) (answers_in runner.new.report.asked.items)
         (bounds_in runner.new.report.asked.items) tt) }
     ensures asked { OnErr result (runner.new.report.asked.items ≡ runner.old.report.asked.items) }
     ensures copies { OnOk result (HasRunCopies runner.old runner.new) }
@@ -34,10 +29,10 @@ fn play_beginning(runner: &mut Runner, common: usize, most: usize) -> Result<(),
         runner.new.report.steps runner.new.played) }
 {
     run_laws();
-    runner.trial.stop_after(most)?;
+    runner.chooser.stop_after(most)?;
     runner.play_plan(common)?;
-    runner.trial.keep_given();
-    runner.trial.exchange_answers(&mut runner.report.asked);
+    runner.chooser.keep_given();
+    runner.chooser.exchange_answers(&mut runner.report.asked);
     Ok(())
 }
 
@@ -46,7 +41,7 @@ fn play_beginning(runner: &mut Runner, common: usize, most: usize) -> Result<(),
 pub(crate) fn find_beginning(
     runner: &mut Runner,
     most: usize,
-    position: Position,
+    position: ListingPosition,
 ) -> Result<bool, AllocError>
     requires position { IsPosition (stopped most (game_of runner.old)) [] position
         (answers_in runner.old.report.asked.items) (bounds_in runner.old.report.asked.items) }
@@ -64,7 +59,7 @@ pub(crate) fn find_beginning(
         runner.old.played runner.new.report runner.new.played) }
 {
     run_laws();
-    match plan_next(position, &[], &runner.report.asked, &mut runner.trial)? {
+    match plan_next(position, &[], &runner.report.asked, &mut runner.chooser)? {
         None => Ok(false),
         Some(common) => {
             play_beginning(runner, common, most)?;

@@ -8,7 +8,7 @@ ghost use Rattle.ptb_explore.specs.Prelude.{front_at, At, IsLast, Start, runs_le
 
 use crate::beginning_search::find_beginning;
 use crate::fault::ExploreFault;
-use crate::plan::Position;
+use crate::plan::ListingPosition;
 use crate::report_text::write_list;
 use crate::runner::Runner;
 use ptb_answers::{Asked, Form};
@@ -31,7 +31,7 @@ pub struct Beginnings<'a> {
     /// The most answers that a list has.
     most: usize,
     /// Where the search is.
-    position: Position,
+    position: ListingPosition,
 }
 
 impl<'a> Model for Beginnings<'a> {
@@ -87,7 +87,7 @@ impl<'a> Beginnings<'a> {
         Ok(Beginnings {
             runner: Runner::new(alloc, program, lines, rules)?,
             most,
-            position: Position::AtStart,
+            position: ListingPosition::AtStart,
         })
     }
 
@@ -110,12 +110,12 @@ impl<'a> Beginnings<'a> {
         let found = find_beginning(&mut self.runner, self.most, self.position);
         match found {
             Ok(true) => {
-                self.position = Position::AtRun;
+                self.position = ListingPosition::AtRun;
                 Ok(true)
             }
             Ok(false) => {
                 self.runner.copies.clear();
-                self.position = Position::AtEnd;
+                self.position = ListingPosition::AtEnd;
                 Ok(false)
             }
             Err(fault) => {

@@ -206,9 +206,9 @@ impl Copies {
         self.add(alloc, machine, held);
     }
 
-    // Adds a copy of a machine, if there is memory for it. Not inlined, since most runs keep none: the loop of a
-    // play would have the places of all copies at hand.
-    #[inline(never)]
+    // Adds a copy of a machine, if there is memory for it. Inlined, since each run that takes an answer keeps a
+    // copy: a call would take 20 instructions more.
+    #[inline(always)]
     fn add(&mut self, alloc: Global, machine: &Machine, reached: Progress)
         ensures { (before : ℕ) → before < reached.taken
             → KeepsCopy before machine.now reached.taken reached.shown reached.lines

@@ -6,7 +6,7 @@ ghost use Rattle.ptb_answers.specs.Asked.{answers_in};
 ghost use Rattle.ptb_explore.specs.Explorations.{play_of, most_of, Reports};
 ghost use Rattle.ptb_explore.specs.RunTree.{IsNextRun, IsLast};
 
-use crate::plan::Position;
+use crate::plan::ListingPosition;
 use crate::report::Report;
 use crate::runner::Runner;
 use ptb_answers::Marked;
@@ -27,7 +27,7 @@ pub struct Explorer<'a> {
     /// The answers with which each of the runs begins.
     pub(crate) under: Vec<Marked>,
     /// Where the listing of the runs is.
-    pub(crate) position: Position,
+    pub(crate) position: ListingPosition,
 }
 
 impl<'a> Model for Explorer<'a> {
@@ -36,7 +36,7 @@ impl<'a> Model for Explorer<'a> {
     ghost use Rattle.ptb_answers.specs.Asked.{answers_in, bounds_in};
     ghost use Rattle.ptb_answers.specs.contracts.rules.Rules as rules_type;
     ghost use Rattle.ptb_explore.specs.Copies.{kept_runs};
-    ghost use Rattle.ptb_explore.specs.Explorations.{Exploration, AreCopiesAt, game_of};
+    ghost use Rattle.ptb_explore.specs.Explorations.{Exploration, exploration, AreCopiesAt, game_of};
     ghost use Rattle.ptb_explore.specs.Plans.{IsPosition, front_at};
 
     ghost Value = { Exploration };
@@ -44,15 +44,9 @@ impl<'a> Model for Explorer<'a> {
     // that of its rules is given, since they state a fact
     ghost coded = { Prim.hlevel (codes, rules_type.the_row.coded) };
 
-    ghost view = { λ e. record {
-      program = e.runner.player;
-      input = e.runner.lines.now;
-      rules = e.runner.rules;
-      under = answers_of e.under.items;
-      front = front_at e.position (answers_in e.runner.report.asked.items);
-      kept = kept_runs (answers_in e.runner.report.asked.items) e.runner.copies.kept.items;
-      played = e.runner.played;
-    } };
+    ghost view = { λ e. exploration e.runner.player e.runner.lines.now e.runner.rules (answers_of e.under.items)
+        (front_at e.position (answers_in e.runner.report.asked.items))
+        (kept_runs (answers_in e.runner.report.asked.items) e.runner.copies.kept.items) e.runner.played };
 
     ghost invariant = { λ e. IsPosition (game_of e.runner) (answers_of e.under.items)
         e.position (answers_in e.runner.report.asked.items) (bounds_in e.runner.report.asked.items)
@@ -91,12 +85,12 @@ impl<'a> Explorer<'a> {
         let found = self.runner.report_next(self.position, &self.under);
         match found {
             Ok(true) => {
-                self.position = Position::AtRun;
+                self.position = ListingPosition::AtRun;
                 Ok(Some(&self.runner.report))
             }
             Ok(false) => {
                 self.runner.copies.clear();
-                self.position = Position::AtEnd;
+                self.position = ListingPosition::AtEnd;
                 Ok(None)
             }
             Err(fault) => {

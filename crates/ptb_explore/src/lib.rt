@@ -4,12 +4,12 @@
 //! It depends on `ptb_machine`, on definitions of `ptb_command`, `ptb_code` and `ptb_devices`, on
 //! `ptb_numbers`, `ptb_answers`, `ptb_text`, `arrayvec`, `itoa` and `thiserror`, and on a
 //! definition of `rand_pcg`. The crate above may rely on `Explorer::start`, `after` and
-//! `after_marked` (where a listing begins, or why the answers are no run), on `under` and
-//! `open` (the same for the runs that begin with a list of answers), on `go_to` (the run to
-//! which an explorer moves), on `write_all_runs` (the reports of the runs that are left), on
-//! `Beginnings::start` and `write_beginnings` (the lists of answers that split the runs), on
-//! `write_sample` (the reports of the runs that a seed draws), on `ReportWriter::write` (a writer
-//! takes the text of `specs/ReportText`, or a prefix of it where it fails), and on `program_laws`.
+//! `after_marked` (where a listing begins, or why the answers are no run), on `under` (the same for
+//! the runs that begin with a list of answers), on `go_to` (the run to which an explorer moves), on
+//! `write_all_runs` (the reports of the runs that are left), on `Beginnings::start` and
+//! `write_beginnings` (the lists of answers that split the runs), on `write_sample` (the reports of
+//! the runs that a seed draws), on `ReportWriter::write` (a writer takes the text of
+//! `specs/ReportText`, or a prefix of it where it fails), and on `program_laws`.
 #![tactic(auto)]
 
 mod beginning_search;
@@ -17,7 +17,7 @@ mod beginnings;
 mod copies;
 mod explorer;
 mod fault;
-mod form;
+mod item_lists;
 mod kept_items;
 mod laws;
 mod listing;

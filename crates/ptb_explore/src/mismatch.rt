@@ -67,13 +67,13 @@ fn bound_mismatch(list: &[Marked], taken: usize, asked: &[Asked]) -> Option<Mism
 /// The first item of a list that does not fit its question, of a play with the list's answers that came
 /// to this ending; or `None` where a run begins with the list. An item that is out of range and also
 /// states another bound is out of range.
-pub(crate) fn item_mismatch(list: &[Marked], trial: &Recorder, ending: Ending) -> Option<Mismatch>
-    requires { (recorder_choices trial.now).plan ≡ answers_of list.now }
-    ensures taken { IfNone result (IsTaken (length list.now) list.now trial.now) }
-    ensures mismatch { Explains (λ game. IsItemMismatch game list.now) trial.now ending result }
+pub(crate) fn item_mismatch(list: &[Marked], chooser: &Recorder, ending: Ending) -> Option<Mismatch>
+    requires { (recorder_choices chooser.now).plan ≡ answers_of list.now }
+    ensures taken { IfNone result (IsTaken (length list.now) list.now chooser.now) }
+    ensures mismatch { Explains (λ game. IsItemMismatch game list.now) chooser.now ending result }
 {
-    let taken = trial.given.min(list.len());
-    let found = bound_mismatch(list, taken, &trial.asked[..trial.given]);
+    let taken = chooser.given.min(list.len());
+    let found = bound_mismatch(list, taken, &chooser.asked[..chooser.given]);
     if found.is_some() {
         return found;
     }
@@ -84,7 +84,7 @@ pub(crate) fn item_mismatch(list: &[Marked], trial: &Recorder, ending: Ending) -
         return Some(Mismatch::OutOfRange {
             item: taken + 1,
             answer: list[taken].answer,
-            bound: trial.refused_bound,
+            bound: chooser.refused_bound,
         });
     }
     Some(Mismatch::NoQuestion { items: taken })
@@ -92,20 +92,20 @@ pub(crate) fn item_mismatch(list: &[Marked], trial: &Recorder, ending: Ending) -
 
 /// Why the items of a list are no run, as [`item_mismatch`] finds it, or that one is missing; or `None`
 /// where they are a run.
-pub(crate) fn run_mismatch(list: &[Marked], trial: &Recorder, ending: Ending) -> Option<Mismatch>
-    requires { (recorder_choices trial.now).plan ≡ answers_of list.now }
-    ensures taken { IfNone result (IsTakenAlone (length list.now) list.now trial.now) }
-    ensures mismatch { Explains (λ game. IsRunMismatch game [] list.now) trial.now ending result }
+pub(crate) fn run_mismatch(list: &[Marked], chooser: &Recorder, ending: Ending) -> Option<Mismatch>
+    requires { (recorder_choices chooser.now).plan ≡ answers_of list.now }
+    ensures taken { IfNone result (IsTakenAlone (length list.now) list.now chooser.now) }
+    ensures mismatch { Explains (λ game. IsRunMismatch game [] list.now) chooser.now ending result }
 {
-    let found = item_mismatch(list, trial, ending);
+    let found = item_mismatch(list, chooser, ending);
     if found.is_some() {
         return found;
     }
     let items = list.len();
-    if items < trial.given {
+    if items < chooser.given {
         return Some(Mismatch::Missing {
             item: items + 1,
-            bound: trial.asked[items].bound,
+            bound: chooser.asked[items].bound,
         });
     }
     None

@@ -5,7 +5,7 @@ ghost use Rattle.ptb_explore.specs.Prelude.{answers_of, is_open, answers_in, bou
 ghost use Rattle.ptb_explore.specs.Prelude.{game_of, report_finish, AreCopiesAt, IsSameGame, HasRunCopies, NextPlays};
 ghost use Rattle.ptb_explore.specs.Prelude.{NextReports, Resumes, front_at, PlanEndsWith, IsPosition, recorded, IsLast};
 
-use crate::plan::{Position, plan_next};
+use crate::plan::{ListingPosition, plan_next};
 use crate::runner::Runner;
 use ptb_answers::Marked;
 use ptb_machine::run_laws;
@@ -15,9 +15,9 @@ impl<'a> Runner<'a> {
     // Plays a plan as play_plan does, and makes the report of its run.
     fn report_plan(&mut self, common: usize) -> Result<(), AllocError>
         requires resumes { Resumes self.old common }
-        requires opens { is_open (game_of self.old (recorded self.old.trial)) ≡ true }
+        requires opens { is_open (game_of self.old (recorded self.old.chooser)) ≡ true }
         ensures same { IsSameGame self.old self.new }
-        ensures ends { OnOk result (PlanEndsWith (game_of self.old) (recorded self.old.trial)
+        ensures ends { OnOk result (PlanEndsWith (game_of self.old) (recorded self.old.chooser)
             (answers_in self.new.report.asked.items) (bounds_in self.new.report.asked.items)
             (report_finish self.new.report)) }
         ensures asked { OnErr result (self.new.report.asked.items ≡ self.old.report.asked.items) }
@@ -29,7 +29,7 @@ impl<'a> Runner<'a> {
     {
         run_laws();
         self.play_plan(common)?;
-        self.trial.exchange_answers(&mut self.report.asked);
+        self.chooser.exchange_answers(&mut self.report.asked);
         Ok(())
     }
 
@@ -41,7 +41,7 @@ impl<'a> Runner<'a> {
     /// Where a growth was refused memory, never where no run is left. The report keeps its answers.
     pub(crate) fn report_next(
         &mut self,
-        position: Position,
+        position: ListingPosition,
         under: &[Marked],
     ) -> Result<bool, AllocError>
         requires position { IsPosition (game_of self.old) (answers_of under.now) position
@@ -62,7 +62,7 @@ impl<'a> Runner<'a> {
         ensures once { self.new.played < self.old.played + play_limit }
     {
         run_laws();
-        match plan_next(position, under, &self.report.asked, &mut self.trial)? {
+        match plan_next(position, under, &self.report.asked, &mut self.chooser)? {
             None => Ok(false),
             Some(common) => {
                 self.report_plan(common)?;

@@ -8,9 +8,9 @@ ghost use Rattle.ptb_explore.specs.Prelude.{IsItemMismatch, IsRunMismatch, At, I
 
 use crate::explorer::Explorer;
 use crate::fault::OpenFault;
-use crate::form::{copied, items_begin_with, unmarked};
+use crate::item_lists::{copied, items_begin_with, unmarked};
 use crate::mismatch::{Mismatch, item_mismatch, run_mismatch};
-use crate::plan::Position;
+use crate::plan::ListingPosition;
 use crate::runner::Runner;
 use ptb_answers::Marked;
 use ptb_machine::{Line, Rules, run_laws};
@@ -40,12 +40,12 @@ impl<'a> Runner<'a> {
     {
         run_laws();
         self.copies.clear();
-        self.trial.replay(list)?;
+        self.chooser.replay(list)?;
         let ending = self.play_from_start()?;
-        if let Some(mismatch) = run_mismatch(list, &self.trial, ending) {
+        if let Some(mismatch) = run_mismatch(list, &self.chooser, ending) {
             return Err(OpenFault::NotARun(mismatch));
         }
-        self.trial.exchange_answers(&mut self.report.asked);
+        self.chooser.exchange_answers(&mut self.report.asked);
         Ok(())
     }
 
@@ -67,10 +67,10 @@ impl<'a> Runner<'a> {
         ensures memory { IsErrOf result OpenFault.Memory → self.new.played ≡ self.old.played }
     {
         run_laws();
-        self.trial.replay(list)?;
+        self.chooser.replay(list)?;
         let ending = self.play_from_start()?;
         self.copies.clear();
-        match item_mismatch(list, &self.trial, ending) {
+        match item_mismatch(list, &self.chooser, ending) {
             None => Ok(()),
             Some(mismatch) => Err(OpenFault::NoBeginning(mismatch)),
         }
@@ -82,17 +82,10 @@ impl<'a> Explorer<'a> {
     ghost use Rattle.ptb_explore.specs.Explorations.{AreKeptAt};
     ghost use Rattle.ptb_explore.specs.Openings.{first_front, IsRunUnder, IsRefusedRun, IsPlayedBefore, IsPlayedFor};
 
-    /// An explorer of the runs that begin with the answers of `under`, of all runs where that is empty:
-    /// before the first of them, or at the run `after`, if one is named. Some of the answers of both
-    /// lists may have their bounds. `under` is looked at first; nothing is played for an empty one.
-    ///
-    /// # Errors
-    ///
-    /// [`OpenFault::NoBeginning`] with the reason where no run begins with `under`, or a bound that is
-    /// stated is not that of its question, so never where it is empty; [`OpenFault::NotARun`] with the
-    /// reason where `after` is named and is no run of these, as in [`go_to`](Explorer::go_to);
-    /// [`OpenFault::Memory`] where a growth was refused memory.
-    pub fn open(
+    // An explorer of the runs that begin with the answers of `under`, of all runs where that is empty:
+    // before the first of them, or at the run `after`, if one is named. Some of the answers of both
+    // lists may have their bounds. `under` is looked at first; nothing is played for an empty one.
+    fn open(
         alloc: Global,
         program: &'a Program,
         lines: &'a [Line],
@@ -132,7 +125,7 @@ impl<'a> Explorer<'a> {
         let explorer = Explorer {
             runner,
             under: items,
-            position: Position::AtStart,
+            position: ListingPosition::AtStart,
         };
         match after {
             None => Ok(explorer),
@@ -306,7 +299,7 @@ impl<'a> Explorer<'a> {
             return Err(OpenFault::NotARun(Mismatch::NotUnder));
         }
         self.runner.check_run(list)?;
-        self.position = Position::AtRun;
+        self.position = ListingPosition::AtRun;
         Ok(self)
     }
 }

@@ -10,7 +10,7 @@ use std::alloc::AllocError;
 
 /// Where a listing of all runs is.
 #[derive(Clone, Copy)]
-pub(crate) enum Position {
+pub(crate) enum ListingPosition {
     /// Before the first run.
     AtStart,
     /// At a run.
@@ -49,28 +49,28 @@ fn last_below(asked: &[Asked], floor: usize) -> Option<usize>
 // Inlined, so that its result isn't passed in memory for each run.
 #[inline(always)]
 pub(crate) fn plan_next(
-    position: Position,
+    position: ListingPosition,
     under: &[Marked],
     asked: &[Asked],
-    trial: &mut Recorder,
+    chooser: &mut Recorder,
 ) -> Result<Option<usize>, AllocError>
     ensures plan { IfOk result (PlansNext (answers_of under.now) position
-        (answers_in asked.now) (bounds_in asked.now) (recorded trial.new)) }
+        (answers_in asked.now) (bounds_in asked.now) (recorded chooser.new)) }
 
     // The answers in front of the raised one have their bounds.
     ensures bounds { IfOk result (λ o. IfSome o
-        (λ i. take i (bounds_in trial.new.asked.items) ≡ take i (bounds_in asked.now))) }
-    ensures fresh { IfOk result (λ o. OnSome o (IsFresh trial.new)) }
+        (λ i. take i (bounds_in chooser.new.asked.items) ≡ take i (bounds_in asked.now))) }
+    ensures fresh { IfOk result (λ o. OnSome o (IsFresh chooser.new)) }
     ensures refused { OnErr result (HasPlan (answers_of under.now) position
         (answers_in asked.now) (bounds_in asked.now)) }
 {
     match position {
-        Position::AtEnd => Ok(None),
-        Position::AtStart => {
-            trial.replay(under)?;
+        ListingPosition::AtEnd => Ok(None),
+        ListingPosition::AtStart => {
+            chooser.replay(under)?;
             Ok(Some(0))
         }
-        Position::AtRun => match last_below(asked, under.len()) {
+        ListingPosition::AtRun => match last_below(asked, under.len()) {
             None => Ok(None),
             Some(i) => {
                 let Asked { answer, bound } = asked[i];
@@ -78,7 +78,7 @@ pub(crate) fn plan_next(
                     answer: answer + 1,
                     bound,
                 };
-                trial.restart(&asked[..i + 1], i, raised)?;
+                chooser.restart(&asked[..i + 1], i, raised)?;
                 Ok(Some(i))
             }
         },

@@ -1,8 +1,8 @@
 // This file plays runs of a listing, from their beginning or from where they are.
 
-ghost use Rattle.std.specs.Prelude.{◌≡◌, ◌-◌, ◌<◌, ◌+◌, ◌≤◌, false, [], length, drop, IfOk, OnOk, OnErr};
+ghost use Rattle.std.specs.Prelude.{◌≡◌, ◌-◌, ◌<◌, ◌+◌, ◌≤◌, [], IfOk, OnOk, OnErr};
 ghost use Rattle.ptb_explore.specs.Prelude.{play, AreCopies, more_played, play_limit, game_of, IsSameGame, IsFresh};
-ghost use Rattle.ptb_explore.specs.Prelude.{PlayEnds, IsRunPrefix, recorder_choices, recorded};
+ghost use Rattle.ptb_explore.specs.Prelude.{CanPlayOn, PlayEnds, recorder_choices, recorded};
 
 use crate::copies::Progress;
 use crate::fault::memory_refusal;
@@ -26,37 +26,32 @@ impl<'a> Runner<'a> {
         screen: &mut TextScreen,
         source: &mut Lines,
     ) -> Result<Ending, AllocError>
-        requires unspent { machine.old.spent ≡ false }
-        requires within { source.old.taken ≤ length source.old.lines }
-        requires run_prefix { IsRunPrefix self.old.player source.old.lines self.old.rules
-            (recorder_choices self.old.trial) screen.old (drop source.old.taken source.old.lines) machine.old }
-        requires copies { AreCopies self.old.player source.old.lines self.old.rules
-            (recorder_choices self.old.trial).taken screen.old self.old.copies.kept.items }
+        requires { CanPlayOn self.old machine.old screen.old source.old }
         ensures same { self.new ≡ record self.old {
-          trial = self.new.trial;
+          chooser = self.new.chooser;
           copies = self.new.copies;
         } }
         ensures plan { OnOk result
-            ((recorder_choices self.new.trial).plan ≡ (recorder_choices self.old.trial).plan) }
+            ((recorder_choices self.new.chooser).plan ≡ (recorder_choices self.old.chooser).plan) }
         ensures ends { IfOk result (PlayEnds (play self.old.player source.old.lines self.old.rules)
-            (recorder_choices self.new.trial) self.new.trial.refused_bound machine.new.steps screen.new) }
+            (recorder_choices self.new.chooser) self.new.chooser.refused_bound machine.new.steps screen.new) }
         ensures copies { OnOk result (AreCopies self.old.player source.old.lines self.old.rules
-            (recorder_choices self.new.trial).taken screen.new self.new.copies.kept.items) }
+            (recorder_choices self.new.chooser).taken screen.new self.new.copies.kept.items) }
     {
         run_laws();
         let rules = self.rules;
         loop {
             self.player.advance(machine, rules.limit);
-            let before = self.trial.given;
+            let before = self.chooser.given;
             match self
                 .player
-                .step(machine, rules, &mut self.trial, screen, source)
+                .step(machine, rules, &mut self.chooser, screen, source)
             {
                 Ok(None) => {}
                 Ok(Some(ending)) => return Ok(ending),
                 Err(fault) => return Err(memory_refusal(fault)),
             }
-            let taken = self.trial.given;
+            let taken = self.chooser.given;
             let shown = screen.len();
             let lines = source.taken();
             let reached = Progress {
@@ -80,23 +75,18 @@ impl<'a> Runner<'a> {
         screen: &mut TextScreen,
         source: &mut Lines,
     ) -> Result<Ending, AllocError>
-        requires unspent { machine.old.spent ≡ false }
-        requires within { source.old.taken ≤ length source.old.lines }
-        requires run_prefix { IsRunPrefix self.old.player source.old.lines self.old.rules
-            (recorder_choices self.old.trial) screen.old (drop source.old.taken source.old.lines) machine.old }
-        requires copies { AreCopies self.old.player source.old.lines self.old.rules
-            (recorder_choices self.old.trial).taken screen.old self.old.copies.kept.items }
+        requires { CanPlayOn self.old machine.old screen.old source.old }
         ensures same { self.new ≡ record self.old {
-          trial = self.new.trial;
+          chooser = self.new.chooser;
           copies = self.new.copies;
           played = self.new.played;
         } }
         ensures plan { OnOk result
-            ((recorder_choices self.new.trial).plan ≡ (recorder_choices self.old.trial).plan) }
+            ((recorder_choices self.new.chooser).plan ≡ (recorder_choices self.old.chooser).plan) }
         ensures ends { IfOk result (PlayEnds (play self.old.player source.old.lines self.old.rules)
-            (recorder_choices self.new.trial) self.new.trial.refused_bound machine.new.steps screen.new) }
+            (recorder_choices self.new.chooser) self.new.chooser.refused_bound machine.new.steps screen.new) }
         ensures copies { OnOk result (AreCopies self.old.player source.old.lines self.old.rules
-            (recorder_choices self.new.trial).taken screen.new self.new.copies.kept.items) }
+            (recorder_choices self.new.chooser).taken screen.new self.new.copies.kept.items) }
         ensures played { self.new.played
             ≡ more_played self.old.played (machine.new.steps - machine.old.steps) }
         ensures rises { self.old.played ≤ self.new.played }
@@ -117,15 +107,15 @@ impl<'a> Runner<'a> {
     ///
     /// Where a growth was refused memory, except that of a copy.
     pub(crate) fn play_from_start(&mut self) -> Result<Ending, AllocError>
-        requires fresh { IsFresh self.old.trial }
+        requires fresh { IsFresh self.old.chooser }
         requires none { self.old.copies.kept.items ≡ [] }
         ensures same { IsSameGame self.old self.new }
         ensures plan { OnOk result
-            ((recorder_choices self.new.trial).plan ≡ recorded self.old.trial) }
-        ensures ends { IfOk result (PlayEnds (game_of self.old) (recorder_choices self.new.trial)
-            self.new.trial.refused_bound self.new.report.steps self.new.report.transcript.items) }
+            ((recorder_choices self.new.chooser).plan ≡ recorded self.old.chooser) }
+        ensures ends { IfOk result (PlayEnds (game_of self.old) (recorder_choices self.new.chooser)
+            self.new.chooser.refused_bound self.new.report.steps self.new.report.transcript.items) }
         ensures copies { OnOk result (AreCopies self.old.player self.old.lines.now self.old.rules
-            (recorder_choices self.new.trial).taken self.new.report.transcript.items
+            (recorder_choices self.new.chooser).taken self.new.report.transcript.items
             self.new.copies.kept.items) }
         ensures played { OnOk result
             (self.new.played ≡ more_played self.old.played self.new.report.steps) }

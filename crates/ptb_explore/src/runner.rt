@@ -26,7 +26,7 @@ pub(crate) struct Runner<'a> {
     /// By which each run is played.
     pub(crate) rules: Rules,
     /// Plans the next run, and answers its questions.
-    pub(crate) trial: Recorder,
+    pub(crate) chooser: Recorder,
     /// The report of the run that was found last.
     pub(crate) report: Report,
     /// Copies of the machine, as it was in that run.
@@ -59,7 +59,7 @@ impl<'a> Runner<'a> {
             player: Player::new(alloc, program)?,
             lines,
             rules,
-            trial: Recorder::new(alloc),
+            chooser: Recorder::new(alloc),
             report: Report::new(alloc),
             copies: Copies::new(),
             played: 0,
@@ -76,26 +76,26 @@ impl<'a> Runner<'a> {
         screen: &mut TextScreen,
         source: &mut Lines,
     ) -> Result<Box<Machine>, AllocError>
-        requires fresh { IsFresh self.old.trial }
+        requires fresh { IsFresh self.old.chooser }
         requires begins { source.old.taken ≡ 0 }
         requires agrees { Agrees (play self.old.player source.old.lines self.old.rules) common
-            (recorded self.old.trial) (answers_in self.old.report.asked.items)
-            (bounds_in self.old.trial.asked.items) }
+            (recorded self.old.chooser) (answers_in self.old.report.asked.items)
+            (bounds_in self.old.chooser.asked.items) }
         requires copies { AreCopies self.old.player source.old.lines self.old.rules
             (answers_in self.old.report.asked.items) screen.old self.old.copies.kept.items }
         ensures same { self.new ≡ record self.old {
-          trial = self.new.trial;
+          chooser = self.new.chooser;
           copies = self.new.copies;
         } }
-        ensures plan { (recorder_choices self.new.trial).plan ≡ recorded self.old.trial }
+        ensures plan { (recorder_choices self.new.chooser).plan ≡ recorded self.old.chooser }
         ensures same_lines { source.new.lines ≡ source.old.lines }
         ensures within { OnOk result (source.new.taken ≤ length source.new.lines) }
         ensures unspent { IfOk result (λ b. b.value.spent ≡ false) }
         ensures run_prefix { IfOk result (λ b. IsRunPrefix self.old.player source.old.lines
-            self.old.rules (recorder_choices self.new.trial) screen.new
+            self.old.rules (recorder_choices self.new.chooser) screen.new
             (drop source.new.taken source.new.lines) b.value) }
         ensures copies { OnOk result (AreCopies self.old.player source.old.lines self.old.rules
-            (recorder_choices self.new.trial).taken screen.new self.new.copies.kept.items) }
+            (recorder_choices self.new.chooser).taken screen.new self.new.copies.kept.items) }
         ensures back { OnOk result
             (WentBack common self.old.copies.kept.items self.new.copies.kept.items) }
         ensures steps { IfOk result (λ b. b.value.steps ≡ last_steps self.new.copies.kept.items) }
@@ -106,7 +106,7 @@ impl<'a> Runner<'a> {
                 self.copies.begin(self.alloc, &self.player)
             }
             Some(copy) => {
-                self.trial.assume_given(copy.taken);
+                self.chooser.assume_given(copy.taken);
                 screen.cut(copy.shown);
                 source.seek(copy.lines);
                 match copy.machine {
@@ -129,13 +129,13 @@ impl<'a> Runner<'a> {
         requires { Resumes self.old common }
         ensures same { IsSameGame self.old self.new }
         ensures plan { OnOk result
-            ((recorder_choices self.new.trial).plan ≡ recorded self.old.trial) }
-        ensures ends { OnOk result (PlayEnds (game_of self.old) (recorder_choices self.new.trial)
-            self.new.trial.refused_bound
+            ((recorder_choices self.new.chooser).plan ≡ recorded self.old.chooser) }
+        ensures ends { OnOk result (PlayEnds (game_of self.old) (recorder_choices self.new.chooser)
+            self.new.chooser.refused_bound
             self.new.report.steps self.new.report.transcript.items self.new.report.ending) }
         ensures asked { self.new.report.asked.items ≡ self.old.report.asked.items }
         ensures copies { OnOk result (AreCopies self.old.player self.old.lines.now self.old.rules
-            (recorder_choices self.new.trial).taken self.new.report.transcript.items
+            (recorder_choices self.new.chooser).taken self.new.report.transcript.items
             self.new.copies.kept.items) }
         ensures played { OnOk result (PlaysOn common self.old.copies.kept.items self.old.played
             self.new.report.steps self.new.played) }

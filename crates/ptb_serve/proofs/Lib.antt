@@ -15,3 +15,4 @@ mod Splits
 mod Checks
 mod Tables
 mod Modes
+mod OpenedListings

@@ -175,6 +175,9 @@ fn explorer_from<'a>(
         listing.entry.under.now listing.entry.after.now) }
 {
     let under = items(listing.under);
-    let after = named_items(listing.after);
-    Explorer::open(alloc, program, lines, request.rules, under, after)
+    let explorer = Explorer::under(alloc, program, lines, request.rules, under)?;
+    match named_items(listing.after) {
+        None => Ok(explorer),
+        Some(list) => explorer.go_to(list),
+    }
 }

@@ -34,7 +34,7 @@ pub(crate) fn explorer_of<'a>(
         Runs::AfterMarked(run) => Explorer::after_marked(alloc, program, lines, rules, run),
         Runs::Under(list) => Explorer::under(alloc, program, lines, rules, list),
         Runs::UnderAfter(list, run) => {
-            Explorer::open(alloc, program, lines, rules, list, Some(run))
+            Explorer::under(alloc, program, lines, rules, list)?.go_to(run)
         }
     }
 }

@@ -16,13 +16,13 @@ use Rattle.ptb_chances.proofs.plays.play_plan.Goals.{After-advance}
 -- what came before still holds after the machine advanced
 advances : (c : After-advance) (S : State)
     → Came c.commands.player c.args.rules S (plan_choices c.commands.plan).taken c.commands.machine
-    (drop c.commands.console.source.taken c.commands.console.source.lines) c.commands.console.screen
+    (drop c.commands.devices.source.taken c.commands.devices.source.lines) c.commands.devices.screen
     → Came c.advance.new.self c.args.rules S (plan_choices c.commands.plan).taken c.advance.new.machine
-    (drop c.commands.console.source.taken c.commands.console.source.lines) c.commands.console.screen
+    (drop c.commands.devices.source.taken c.commands.devices.source.lines) c.commands.devices.screen
 advances c S came =
     let turns = c.advance.ensures.turns in
     advanced c.run_laws.ensures c.commands.player c.args.rules c.advance.new.self turns.0 S c.commands.machine
-    c.advance.new.machine (plan_choices c.commands.plan).taken c.commands.console.screen _ c.advance.ensures.program
+    c.advance.new.machine (plan_choices c.commands.plan).taken c.commands.devices.screen _ c.advance.ensures.program
     came turns.1.1
 
 pub commands-init : goal.commands-init
@@ -53,7 +53,7 @@ commands-preserved c =
           (plan_choices l.plan) c.step.new.chooser _ _ turn.given _ _ _ _ _ u turn.gives.first
           (none_follow c.step.new.source) turn.steps None is ∙ i.answers;
       same_lines = turn.gives.same_lines ∙ i.same_lines;
-      within = rw (← i.same_lines) (taken_within l.console.source c.step.new.source turn.given turn.gives
+      within = rw (← i.same_lines) (taken_within l.devices.source c.step.new.source turn.given turn.gives
           (rw i.same_lines i.within));
       unspent = c.step.ensures.step.spends.0 is;
       steps = omega (arith, i.steps, turns.1.0, (c.step.ensures.step.begun is).1);
@@ -117,14 +117,14 @@ pub returns-in-Ok-Some-clause-within : goal.returns-in-Ok-Some-clause-within
 returns-in-Ok-Some-clause-within c =
     let i = c.commands.invariant in
     let turn = c.step.ensures.step.turn in
-    rw (← i.same_lines) (taken_within c.commands.console.source c.step.new.source turn.given turn.gives
+    rw (← i.same_lines) (taken_within c.commands.devices.source c.step.new.source turn.given turn.gives
     (rw i.same_lines i.within))
 
 pub returns-then-is_used_up-clause-within : goal.returns-then-is_used_up-clause-within
 returns-then-is_used_up-clause-within c =
     let i = c.commands.invariant in
     let turn = c.step.ensures.step.turn in
-    rw (← i.same_lines) (taken_within c.commands.console.source c.step.new.source turn.given turn.gives
+    rw (← i.same_lines) (taken_within c.commands.devices.source c.step.new.source turn.given turn.gives
     (rw i.same_lines i.within))
 
 pub returns-then-is_used_up-clause-plays : goal.returns-then-is_used_up-clause-plays

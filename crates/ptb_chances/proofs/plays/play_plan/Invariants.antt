@@ -9,15 +9,15 @@ abbrev pub invariant-commands : goal.invariant-commands
 invariant-commands l = record {
   program : l.player ≡ l.fn.player;
   answers : l.plan.answers ≡ l.fn.answers;
-  same_lines : l.console.source.lines ≡ l.fn.console.source.lines;
-  within : l.console.source.taken ≤ length l.fn.console.source.lines;
+  same_lines : l.devices.source.lines ≡ l.fn.devices.source.lines;
+  within : l.devices.source.taken ≤ length l.fn.devices.source.lines;
   unspent : l.machine.spent ≡ false;
   steps : l.fn.machine.steps ≤ l.machine.steps;
   came : (S : State)
-      → IsStageAt l.fn.player l.rules l.fn.machine (drop l.fn.console.source.taken l.fn.console.source.lines)
-      l.fn.console.screen S
+      → IsStageAt l.fn.player l.rules l.fn.machine (drop l.fn.devices.source.taken l.fn.devices.source.lines)
+      l.fn.devices.screen S
       → Came l.player l.rules S (take l.plan.given l.plan.answers) l.machine
-      (drop l.console.source.taken l.console.source.lines) l.console.screen;
+      (drop l.devices.source.taken l.devices.source.lines) l.devices.screen;
 }
 
 -- each step is below the rules

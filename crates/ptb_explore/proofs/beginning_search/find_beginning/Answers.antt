@@ -26,27 +26,27 @@ returns-in-None-clause-next c =
     let most = most_answers c.args.runner.now.player c.args.runner.now.lines.now c.args.runner.now.rules.limit in
     let report = c.args.runner.now.report in
     let plans : PlansNext [] c.args.position (answers_in report.asked.items)
-    (bounds_in report.asked.items) (recorded c.plan_next.new.trial) None =
+    (bounds_in report.asked.items) (recorded c.plan_next.new.chooser) None =
     rw (← c.deref.ensures.value, ← c.in-None.is) c.in_ok-plan_next.ensures.plan in
     last_plan (stopped c.args.most game) c.args.most (stopped_reads game c.args.most most reads)
-    [] c.args.position (answers_in report.asked.items) (recorded c.plan_next.new.trial)
+    [] c.args.position (answers_in report.asked.items) (recorded c.plan_next.new.chooser)
     (bounds_in report.asked.items) c.requires.position plans
 
 -- the plan that comes next
 planned : (c : In-Some) → PlansNext [] c.args.position (answers_in c.args.runner.now.report.asked.items)
-    (bounds_in c.args.runner.now.report.asked.items) (recorded c.plan_next.new.trial) (Some c.in-Some.common)
+    (bounds_in c.args.runner.now.report.asked.items) (recorded c.plan_next.new.chooser) (Some c.in-Some.common)
 planned c = rw (← c.deref.ensures.value, ← c.in-Some.is) c.in_ok-plan_next.ensures.plan
 
 next_is : (c : In-Some) → IsPlan (stopped c.args.most (play c.args.runner.now.player c.args.runner.now.lines.now
     c.args.runner.now.rules)) [] (front_at c.args.position (answers_in c.args.runner.now.report.asked.items))
-    (recorded c.plan_next.new.trial)
+    (recorded c.plan_next.new.chooser)
 next_is c =
     let game = play c.args.runner.now.player c.args.runner.now.lines.now c.args.runner.now.rules in
     let reads = c.run_laws.ensures.reads c.args.runner.now.player c.args.runner.now.lines.now c.args.runner.now.rules in
     let most = most_answers c.args.runner.now.player c.args.runner.now.lines.now c.args.runner.now.rules.limit in
     let report = c.args.runner.now.report in
     next_plan (stopped c.args.most game) c.args.most (stopped_reads game c.args.most most reads)
-    [] c.args.position (answers_in report.asked.items) (recorded c.plan_next.new.trial) (bounds_in report.asked.items)
+    [] c.args.position (answers_in report.asked.items) (recorded c.plan_next.new.chooser) (bounds_in report.asked.items)
     c.in-Some.common c.requires.position (planned c)
 
 -- so some list is left
@@ -59,7 +59,7 @@ none_last c last =
     let most = most_answers c.args.runner.now.player c.args.runner.now.lines.now c.args.runner.now.rules.limit in
     let report = c.args.runner.now.report in
     plan_left (stopped c.args.most game) c.args.most (stopped_reads game c.args.most most reads) []
-    (front_at c.args.position (answers_in report.asked.items)) (recorded c.plan_next.new.trial) (next_is c) last
+    (front_at c.args.position (answers_in report.asked.items)) (recorded c.plan_next.new.chooser) (next_is c) last
 
 pub play_beginning-requires : goal.play_beginning-requires
 play_beginning-requires c =
@@ -67,23 +67,25 @@ play_beginning-requires c =
     let reads = c.run_laws.ensures.reads c.args.runner.now.player c.args.runner.now.lines.now c.args.runner.now.rules in
     let most = most_answers c.args.runner.now.player c.args.runner.now.lines.now c.args.runner.now.rules.limit in
     let report = c.args.runner.now.report in
-    let plan = recorded c.plan_next.new.trial in
+    let plan = recorded c.plan_next.new.chooser in
     let plans = planned (goal.at.play_beginning-requires c).In-Some in
     let near = beginning_agrees game most reads c.args.most c.args.position (answers_in report.asked.items) plan
     (bounds_in report.asked.items) c.in-Some.common c.requires.position plans in
-    let bounds : take c.in-Some.common (bounds_in c.plan_next.new.trial.asked.items)
+    let bounds : take c.in-Some.common (bounds_in c.plan_next.new.chooser.asked.items)
     ≡ take c.in-Some.common (bounds_in report.asked.items) =
     rw (← c.deref.ensures.value) (if_some_at _ c.in-Some.is c.in_ok-plan_next.ensures.bounds) in
     let fits = plan_fits game most reads c.args.most c.args.position (answers_in report.asked.items) plan
     (bounds_in report.asked.items) c.in-Some.common c.requires.position plans in
     record {
-      fresh = on_some_at c.in-Some.is c.in_ok-plan_next.ensures.fresh;
+      resumes = record {
+        fresh = on_some_at c.in-Some.is c.in_ok-plan_next.ensures.fresh;
+        agrees = (near.0, near.1, bounds ∙ near.2);
+        copies = position_copies c.args.runner.now.player c.args.runner.now.lines.now c.args.runner.now.rules
+            c.args.position c.args.runner.now.report c.args.runner.now.copies.kept.items c.requires.copies;
+      };
       within = fits.0;
       common = fits.1;
       opens = (next_is (goal.at.play_beginning-requires c).In-Some).opens;
-      agrees = (near.0, near.1, bounds ∙ near.2);
-      copies = position_copies c.args.runner.now.player c.args.runner.now.lines.now c.args.runner.now.rules
-          c.args.position c.args.runner.now.report c.args.runner.now.copies.kept.items c.requires.copies;
     }
 
 pub returns-in_ok-play_beginning-in-Some-clause-next : goal.returns-in_ok-play_beginning-in-Some-clause-next
@@ -95,7 +97,7 @@ returns-in_ok-play_beginning-in-Some-clause-next c =
     let next = next_is (goal.at.returns-in_ok-play_beginning-in-Some-clause-next c).In-Some in
     let run = c.in_ok-play_beginning-in-Some.ensures.ends in (
       plan_ends (stopped c.args.most game) c.args.most (stopped_reads game c.args.most most reads) []
-          (front_at c.args.position (answers_in report.asked.items)) (recorded c.plan_next.new.trial) _ _ _ next run,
+          (front_at c.args.position (answers_in report.asked.items)) (recorded c.plan_next.new.chooser) _ _ _ next run,
       run.bounds_are,
     )
 
@@ -106,7 +108,7 @@ returns-in_ok-play_beginning-in-Some-clause-ended c = λ last.
 pub returns-in_ok-play_beginning-in-Some-clause-played : goal.returns-in_ok-play_beginning-in-Some-clause-played
 returns-in_ok-play_beginning-in-Some-clause-played c =
     let report = c.args.runner.now.report in
-    let plan = recorded c.plan_next.new.trial in
+    let plan = recorded c.plan_next.new.chooser in
     let plans = planned (goal.at.returns-in_ok-play_beginning-in-Some-clause-played c).In-Some in
     let run = c.in_ok-play_beginning-in-Some.ensures.ends in
     next_played c.args.runner.now.player c.args.runner.now.lines.now c.args.runner.now.rules

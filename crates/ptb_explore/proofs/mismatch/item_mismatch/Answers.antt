@@ -19,56 +19,57 @@ none = without_bound (pos 0)
 
 -- some items were not taken, and the bounds of the others are those that were seen
 stated : (c : After-eq)
-    → (c.min-taken.result ≡ length (given_bounds c.args.trial.now))
-    × (length (given_bounds c.args.trial.now) < length c.args.list.now)
-    × (states_bounds (take (length (given_bounds c.args.trial.now)) c.args.list.now) (given_bounds c.args.trial.now)
+    → (c.min-taken.result ≡ length (given_bounds c.args.chooser.now))
+    × (length (given_bounds c.args.chooser.now) < length c.args.list.now)
+    × (states_bounds (take (length (given_bounds c.args.chooser.now)) c.args.list.now) (given_bounds c.args.chooser.now)
     ≡ true)
 stated c =
-    let trial = c.args.trial.now in
+    let chooser = c.args.chooser.now in
     let list = c.args.list.now in
-    let n : c.min-taken.result ≡ length (given_bounds trial) =
-    omega (arith, c.min-taken.ensures, (given_len trial), c.if-taken-list.false) in
-    let less : length (given_bounds trial) < length list =
-    omega (arith, c.min-taken.ensures, (given_len trial), c.if-taken-list.false) in
+    let n : c.min-taken.result ≡ length (given_bounds chooser) =
+    omega (arith, c.min-taken.ensures, (given_len chooser), c.if-taken-list.false) in
+    let less : length (given_bounds chooser) < length list =
+    omega (arith, c.min-taken.ensures, (given_len chooser), c.if-taken-list.false) in
     let found = if_none_at (none_is c.bound_mismatch-found.result c.if-is_some.ensures)
     c.bound_mismatch-found.ensures.states in
-    let states : states_bounds (take (length (given_bounds trial)) list) (given_bounds trial) ≡ true =
+    let states : states_bounds (take (length (given_bounds chooser)) list) (given_bounds chooser) ≡ true =
     rw (n, c.deref.ensures.value) at found in
     (n, less, states)
 
 pub returns-then-is_some-clause-mismatch : goal.returns-then-is_some-clause-mismatch
 returns-then-is_some-clause-mismatch c = λ game most steps shown reads h.
-    let trial = c.args.trial.now in
+    let chooser = c.args.chooser.now in
     let list = c.args.list.now in
-    let taken : ((c.min-taken.result ≡ length list) × (length list ≤ length (given_bounds trial)))
-    ⊎ ((c.min-taken.result ≡ length (given_bounds trial)) × (length (given_bounds trial) < length list)) =
-    elim (cases_lt (length (given_bounds trial)) (length list)) [
-      | inl less ↦ inr (omega (arith, c.min-taken.ensures, (given_len trial), less), less)
-      | inr all ↦ inl (omega (arith, c.min-taken.ensures, (given_len trial), all), omega (arith, all))
+    let taken : ((c.min-taken.result ≡ length list) × (length list ≤ length (given_bounds chooser)))
+    ⊎ ((c.min-taken.result ≡ length (given_bounds chooser)) × (length (given_bounds chooser) < length list)) =
+    elim (cases_lt (length (given_bounds chooser)) (length list)) [
+      | inl less ↦ inr (omega (arith, c.min-taken.ensures, (given_len chooser), less), less)
+      | inr all ↦ inl (omega (arith, c.min-taken.ensures, (given_len chooser), all), omega (arith, all))
     ] in
     c.bound_mismatch-found.ensures.mismatch game most reads
     (rw c.deref.ensures.value
-    (takes_items game trial steps shown most reads list c.requires c.min-taken.result taken c.args.ending h))
+    (takes_items game chooser steps shown most reads list c.requires c.min-taken.result taken c.args.ending h))
 
 pub returns-then-eq-clause-mismatch : goal.returns-then-eq-clause-mismatch
 returns-then-eq-clause-mismatch c = λ game most steps shown reads h.
-    let trial = c.args.trial.now in
+    let chooser = c.args.chooser.now in
     let list = c.args.list.now in
     let known = stated (goal.at.returns-then-eq-clause-mismatch c).After-eq in
     let is : c.args.ending ≡ endings.BadAnswer = search (rules, c.eq.ensures, c.if-eq.true) in
-    let outside = subst (PlayEnds game (recorder_choices trial) trial.refused_bound steps shown) is h in
+    let outside = subst (PlayEnds game (recorder_choices chooser) chooser.refused_bound steps shown) is h in
     let answer : ℤ = (get_or list c.min-taken.result none).answer in
     let answer_fits : FitsSigned w16 answer = search rules in
-    let bound_fits : FitsSigned w16 trial.refused_bound = search rules in
+    let bound_fits : FitsSigned w16 chooser.refused_bound = search rules in
     let answer_is : to_z w16 (of_z w16 answer) ≡ answer = to_z-of_z answer_fits in
-    let bound_is : to_z w16 (of_z w16 trial.refused_bound) ≡ trial.refused_bound = to_z-of_z bound_fits in
+    let bound_is : to_z w16 (of_z w16 chooser.refused_bound) ≡ chooser.refused_bound = to_z-of_z bound_fits in
     rw (answer_is, bound_is, known.0)
-    (stops_outside game trial steps shown most reads list c.requires known.1 none known.2 outside)
+    (stops_outside game chooser steps shown most reads list c.requires known.1 none known.2 outside)
 
 pub returns-clause-mismatch : goal.returns-clause-mismatch
 returns-clause-mismatch c = λ game most steps shown reads h.
-    let trial = c.args.trial.now in
+    let chooser = c.args.chooser.now in
     let list = c.args.list.now in
     let known = stated (goal.at.returns-clause-mismatch c).After-eq in
     let other : c.args.ending ≡ endings.BadAnswer → ⊥ = search (rules, c.eq.ensures, c.if-eq.false) in
-    rw known.0 (stops_over game trial steps shown most reads list c.requires known.1 none known.2 c.args.ending other h)
+    rw known.0 (stops_over game chooser steps shown most reads list c.requires known.1 none known.2 c.args.ending other
+    h)

@@ -15,25 +15,25 @@ returns-then-is_some-clause-mismatch c = λ game most steps shown reads h.
     if_some_more c.item_mismatch-found.result (λ m x. item_is_run game most reads [] c.args.list.now m refl x)
     (c.item_mismatch-found.ensures.mismatch game most steps shown reads h)
 
-pub returns-then-items-trial-clause-mismatch : goal.returns-then-items-trial-clause-mismatch
-returns-then-items-trial-clause-mismatch c = λ game most steps shown reads h.
-    let trial = c.args.trial.now in
+pub returns-then-items-chooser-clause-mismatch : goal.returns-then-items-chooser-clause-mismatch
+returns-then-items-chooser-clause-mismatch c = λ game most steps shown reads h.
+    let chooser = c.args.chooser.now in
     let list = c.args.list.now in
-    let bounds = given_bounds trial in
+    let bounds = given_bounds chooser in
     let is = if_none_at (none_is c.item_mismatch-found.result c.if-is_some.ensures)
     c.item_mismatch-found.ensures.taken in
     let states : states_bounds (take (length list) list) bounds ≡ true =
     ap (λ l. states_bounds l bounds) (take-length list) ∙ is.states in
     let begins = all_fit game most reads list bounds (length list)
-    (takes_all game trial steps shown most reads list c.requires is.taken c.args.ending h) refl states in
+    (takes_all game chooser steps shown most reads list c.requires is.taken c.args.ending h) refl states in
     let bound : ℤ = c.index.result.now.bound in
-    let less : length list < trial.given = c.if-items-trial.true in
+    let less : length list < chooser.given = c.if-items-chooser.true in
     let there = ap (λ (q : Asked). q.bound) c.index.ensures
-    ∙ sym (given_at trial (length list) c.index.result.now bound less) in
+    ∙ sym (given_at chooser (length list) c.index.result.now bound less) in
     let fits : FitsSigned w16 bound = search rules in
     let same : to_z w16 (of_z w16 bound) ≡ bound = to_z-of_z fits in
     rw same (
       refl,
-      missing_item game most reads list bounds (has_all game trial steps shown most reads list c.requires
-          is.taken c.args.ending h) begins bound there (omega (arith, less, given_len trial)),
+      missing_item game most reads list bounds (has_all game chooser steps shown most reads list c.requires
+          is.taken c.args.ending h) begins bound there (omega (arith, less, given_len chooser)),
     )

@@ -7,7 +7,7 @@ use Rattle.ptb_chances.proofs.count.Count.finish.Given as goal
 abbrev pub invariant-plans : goal.invariant-plans
 invariant-plans g l = record {
   player : l.self.stage.player ≡ l.fn.self.stage.player;
-  lines : l.self.stage.console.source.lines ≡ l.fn.self.stage.console.source.lines;
+  lines : l.self.stage.devices.source.lines ≡ l.fn.self.stage.devices.source.lines;
   rules : l.self.stage.rules ≡ l.fn.self.stage.rules;
   accounted : IsTallied l.fn.self.stage l.self.tally (standings l.self.work);
 }

@@ -27,14 +27,14 @@ pub returns-in-Over-clause-counted : goal.returns-in-Over-clause-counted
 returns-in-Over-clause-counted c =
     let plays = rw c.in-Over.is at c.in_ok-played.ensures.plays.1 in
     on_ok c.add_over.result c.add_over.ensures (λ added. settled_over _ _ _ _ _ _ _ c.requires
-    c.in_ok-played.ensures.plays.0 c.in-Over.ending c.play.new.self.console.screen c.add_over.new.tally plays
+    c.in_ok-played.ensures.plays.0 c.in-Over.ending c.play.new.self.devices.screen c.add_over.new.tally plays
     (rw c.bytes-shown.ensures at added))
 
 pub returns-in-Over-clause-less : goal.returns-in-Over-clause-less
 returns-in-Over-clause-less c =
     let s = c.args.self.now in
     on_ok c.add_over.result c.add_over.ensures (λ _. load_some s.stage.rules.limit
-    (most_answers s.stage.player s.stage.console.source.lines s.stage.rules.limit) (planned s.work.place c.args.plan)
+    (most_answers s.stage.player s.stage.devices.source.lines s.stage.rules.limit) (planned s.work.place c.args.plan)
     (standings s.work))
 
 pub returns-in-Asks-clause-counted : goal.returns-in-Asks-clause-counted
@@ -73,5 +73,5 @@ returns-in-Goes-clause-less c =
     let before = c.play.new.self.before in
     let put : Puts (standings s.work) (gone_to before.machine before.taken before.shown.items c.args.plan.chance
     c.args.plan.runs) (standings c.add.new.self) = rw (c.at.ensures, c.replace-place.ensures.value) at there in
-    load_gone s.stage.rules.limit (most_answers s.stage.player s.stage.console.source.lines s.stage.rules.limit)
+    load_gone s.stage.rules.limit (most_answers s.stage.player s.stage.devices.source.lines s.stage.rules.limit)
     (standings s.work) _ (planned s.work.place c.args.plan) _ put goes.1)

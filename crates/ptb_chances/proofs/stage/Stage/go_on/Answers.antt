@@ -1,7 +1,7 @@
 -- This file answers that a run continues command by command.
 use Rattle.std.proofs.Common.{◌≡◌, List, ℕ, [], rules, refl, sym, ap, subst, ◌∙◌, arith, drop}
 use Rattle.ptb_chances.specs.Standing.{SameEnd}
-use Rattle.ptb_chances.specs.declared.plays.Console.{Console}
+use Rattle.ptb_chances.specs.declared.plays.PlayDevices.{PlayDevices}
 use Rattle.ptb_chances.proofs.PlaySteps.{came_first, fits_there}
 use Rattle.ptb_chances.proofs.Continuations.{HasAdvanced, gone, gone_on, gone_opens, gone_over, gone_waits}
 use Rattle.ptb_chances.proofs.Continuations.{turns_named}
@@ -28,10 +28,10 @@ advance-requires c =
 -- the commands that ask nothing were done
 has_advanced : (c : After-advance)
     → HasAdvanced c.args.self.now.player c.advance.new.self.player c.args.self.now.rules c.advance.new.self.rules
-    c.commands.self.trial c.advance.new.self.trial
-    (drop c.commands.self.console.source.taken c.args.self.now.console.source.lines)
-    (drop c.advance.new.self.console.source.taken c.advance.new.self.console.source.lines)
-    c.commands.self.console.screen c.advance.new.self.console.screen
+    c.commands.self.machine c.advance.new.self.machine
+    (drop c.commands.self.devices.source.taken c.args.self.now.devices.source.lines)
+    (drop c.advance.new.self.devices.source.taken c.advance.new.self.devices.source.lines)
+    c.commands.self.devices.screen c.advance.new.self.devices.screen
 has_advanced c =
     let l = c.commands in
     let i = l.invariant in
@@ -39,9 +39,9 @@ has_advanced c =
     record {
       program = e.player ∙ i.player;
       by = e.rules ∙ i.rules;
-      lines_are = ap (λ (k : Console). drop k.source.taken k.source.lines) e.console
-          ∙ ap (drop l.self.console.source.taken) i.same_lines;
-      text_is = ap (λ (k : Console). k.screen) e.console;
+      lines_are = ap (λ (k : PlayDevices). drop k.source.taken k.source.lines) e.devices
+          ∙ ap (drop l.self.devices.source.taken) i.same_lines;
+      text_is = ap (λ (k : PlayDevices). k.screen) e.devices;
       count = e.turns.0;
       turns = turns_named _ _ _ _ _ _ _ (sym e.player) (sym e.rules) e.turns.1.1;
     }
@@ -62,7 +62,7 @@ commands-preserved c =
     let i = c.commands.invariant in
     let e = c.advance.ensures in
     let a = has_advanced (goal.at.commands-preserved c).After-advance in
-    let same_lines = ap (λ (k : Console). k.source.lines) e.console ∙ i.same_lines in
+    let same_lines = ap (λ (k : PlayDevices). k.source.lines) e.devices ∙ i.same_lines in
     let plays = (rw c.in-Goes.is at c.in_ok-ending.ensures.plays).1 in
     let goes = c.in_ok-ending.ensures.goes c.in-Goes.is in
     record {
@@ -73,7 +73,7 @@ commands-preserved c =
       unspent = goes.0;
       steps = omega (arith, rw a.by at goes.1, e.turns.1.0, i.steps);
       came = λ S h. gone_on c.run_laws.ensures _ _ _ _ S _ _ _ _ _ _ a (i.came S h) []
-          _ _ _ _ refl (ap (drop c.play_plan.new.console.source.taken) same_lines) plays;
+          _ _ _ _ refl (ap (drop c.play_plan.new.devices.source.taken) same_lines) plays;
     }
 
 pub returns-in-Over-clause-goes : goal.returns-in-Over-clause-goes
@@ -86,6 +86,6 @@ pub returns-in-Asks-clause-goes : goal.returns-in-Asks-clause-goes
 returns-in-Asks-clause-goes c = λ S h.
     let noted = c.in_ok-advance.ensures in
     let a = has_advanced (goal.at.returns-in-Asks-clause-goes c).After-advance in
-    let rest = a.lines_are ∙ ap (λ n. drop n c.args.self.now.console.source.lines) (sym noted.taken) in
+    let rest = a.lines_are ∙ ap (λ n. drop n c.args.self.now.devices.source.lines) (sym noted.taken) in
     let end = subst (λ (s : List ℕ). SameEnd s c.advance.new.self.before.shown.items) (sym a.text_is) noted.shown in
     gone_waits c.run_laws.ensures _ _ _ _ S _ _ _ _ _ _ a (c.commands.invariant.came S h) _ _ _ noted.machine rest end

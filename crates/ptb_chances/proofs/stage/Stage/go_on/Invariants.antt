@@ -1,5 +1,5 @@
 -- This file says what is kept while a run continues: in each state from which it may have begun, it has come to where
--- the trial is.
+-- the machine is.
 use Rattle.std.proofs.Common.{◌≡◌, ◌≤◌, ◌-◌, [], false, length, drop}
 use Rattle.ptb_code.specs.State.{State}
 use Rattle.ptb_chances.specs.Standing.{Came, IsStageAt}
@@ -9,17 +9,17 @@ abbrev pub invariant-commands : goal.invariant-commands
 invariant-commands l = record {
   player : l.self.player ≡ l.fn.self.player;
   rules : l.self.rules ≡ l.fn.self.rules;
-  same_lines : l.self.console.source.lines ≡ l.fn.self.console.source.lines;
-  within : l.self.console.source.taken ≤ length l.fn.self.console.source.lines;
-  unspent : l.self.trial.spent ≡ false;
-  steps : l.fn.self.rules.limit - l.self.trial.steps ≤ l.fn.self.rules.limit - l.fn.self.trial.steps;
+  same_lines : l.self.devices.source.lines ≡ l.fn.self.devices.source.lines;
+  within : l.self.devices.source.taken ≤ length l.fn.self.devices.source.lines;
+  unspent : l.self.machine.spent ≡ false;
+  steps : l.fn.self.rules.limit - l.self.machine.steps ≤ l.fn.self.rules.limit - l.fn.self.machine.steps;
   came : (S : State)
-      → IsStageAt l.fn.self.player l.fn.self.rules l.fn.self.trial
-      (drop l.fn.self.console.source.taken l.fn.self.console.source.lines) l.fn.self.console.screen S
-      → Came l.fn.self.player l.fn.self.rules S [] l.self.trial
-      (drop l.self.console.source.taken l.fn.self.console.source.lines) l.self.console.screen;
+      → IsStageAt l.fn.self.player l.fn.self.rules l.fn.self.machine
+      (drop l.fn.self.devices.source.taken l.fn.self.devices.source.lines) l.fn.self.devices.screen S
+      → Came l.fn.self.player l.fn.self.rules S [] l.self.machine
+      (drop l.self.devices.source.taken l.fn.self.devices.source.lines) l.self.devices.screen;
 }
 
 -- each step is below the rules
 abbrev pub decreases-commands : goal.decreases-commands
-decreases-commands l = l.fn.self.rules.limit - l.self.trial.steps
+decreases-commands l = l.fn.self.rules.limit - l.self.machine.steps

@@ -8,7 +8,7 @@ go_on-requires-clause-opens c =
     let e = c.start.ensures in
     let o = c.requires.opens in
     let plays = (rw c.in-Goes.is at c.in_ok-played.ensures.plays).1 in
-    let lines_are = ap (drop c.start.new.self.console.source.taken) e.same_lines in
+    let lines_are = ap (drop c.start.new.self.devices.source.taken) e.same_lines in
     let came = plays o.0 o.1 in
     let x = named _ _ _ _ e.player e.rules o.0 c.args.plan.now.answers.items _ _ _ lines_are _ came in (
       x.state,
@@ -22,7 +22,7 @@ returns-in-Some-clause-plays c = (
   length c.args.plan.now.answers.items,
   λ S h.
       let e = c.start.ensures in
-      let lines_are = ap (drop c.start.new.self.console.source.taken) e.same_lines in
+      let lines_are = ap (drop c.start.new.self.devices.source.taken) e.same_lines in
       let came = (rw c.in-Goes.is at c.in_ok-played.ensures.plays).1 S h in
       plan_over _ _ _ _ e.player e.rules S c.args.plan.now.answers.items _ _ _ lines_are _ came _ _
       (rw c.in-Some.is at c.in_ok-over.ensures.goes),
@@ -33,7 +33,7 @@ returns-in-None-clause-plays c = (
   0,
   λ S h.
       let e = c.start.ensures in
-      let lines_are = ap (drop c.start.new.self.console.source.taken) e.same_lines in
+      let lines_are = ap (drop c.start.new.self.devices.source.taken) e.same_lines in
       let came = (rw c.in-Goes.is at c.in_ok-played.ensures.plays).1 S h in
       plan_waits _ _ _ _ e.player e.rules S c.args.plan.now.answers.items _ _ _ lines_are _ came _ _ _ _
       (ap (drop c.go_on.new.self.before.taken) e.same_lines) (rw c.in-None.is at c.in_ok-over.ensures.goes),

@@ -15,7 +15,7 @@ use Rattle.ptb_explore.proofs.Mismatches.{answers_length, if_none_at, if_some_at
 use Rattle.ptb_explore.proofs.Next.{next_same}
 use Rattle.ptb_explore.proofs.Recorded.{fresh_from}
 use Rattle.ptb_explore.proofs.RaisedAnswers.{plan_ends, start_plan}
-use Rattle.ptb_explore.proofs.Trial.{begun_opens, open_ends, result_is}
+use Rattle.ptb_explore.proofs.PlayedRecorders.{begun_opens, open_ends, result_is}
 use Rattle.ptb_explore.proofs.runner.Runner.check_beginning.Goals as goal
 use Rattle.ptb_explore.proofs.runner.Runner.check_beginning.Goals.{In-None}
 
@@ -27,18 +27,18 @@ item_mismatch-requires c = c.in_ok-ending.ensures.plan ∙ c.in_ok-replay.ensure
 
 -- the plan is open, and its bounds are the first of those that were given
 begun : (c : In-None) → (is_open (game_of c.args.self.now (recorded c.replay.new.self)) ≡ true)
-    × (take (length (recorded c.replay.new.self)) (given_bounds c.play_from_start.new.self.trial)
+    × (take (length (recorded c.replay.new.self)) (given_bounds c.play_from_start.new.self.chooser)
     ≡ bounds (game_of c.args.self.now) (recorded c.replay.new.self))
 begun c =
     let old = c.args.self.now in
     let plan = recorded c.replay.new.self in
-    let all : length plan ≤ length (given_bounds c.play_from_start.new.self.trial) = omega (
+    let all : length plan ≤ length (given_bounds c.play_from_start.new.self.chooser) = omega (
       arith,
       (if_none_at c.in-None.is c.item_mismatch.ensures.taken).taken,
       ap length c.in_ok-replay.ensures.answers,
       answers_length c.args.list.now,
     ) in
-    begun_opens (game_of old) c.play_from_start.new.self.trial _ c.play_from_start.new.self.report.transcript.items
+    begun_opens (game_of old) c.play_from_start.new.self.chooser _ c.play_from_start.new.self.report.transcript.items
     (most_answers old.player old.lines.now old.rules.limit)
     (c.run_laws.ensures.reads old.player old.lines.now old.rules) plan c.in_ok-ending.ensures.plan all _
     c.in_ok-ending.ensures.ends
@@ -60,7 +60,7 @@ returns-in-None-clause-played c = λ a first f over.
     let most = most_answers old.player old.lines.now old.rules.limit in
     let reads = c.run_laws.ensures.reads old.player old.lines.now old.rules in
     let plan = (recorded c.replay.new.self) in
-    let new = c.play_from_start.new.self.trial in
+    let new = c.play_from_start.new.self.chooser in
     let are = c.in_ok-replay.ensures.answers in
     let opens = (begun (goal.at.returns-in-None-clause-played c).In-None).0 in
     let end = open_ends game new _ c.play_from_start.new.self.report.transcript.items most reads plan

@@ -16,7 +16,7 @@ use Rattle.ptb_explore.proofs.Keep.{kept_same}
 use Rattle.ptb_explore.proofs.Mismatches.{answers_length, if_none_at, if_some_at}
 use Rattle.ptb_explore.proofs.Recorded.{fresh_from}
 use Rattle.ptb_explore.proofs.Runners.{changed}
-use Rattle.ptb_explore.proofs.Trial.{all_bounds, all_given, result_is, whole_plan}
+use Rattle.ptb_explore.proofs.PlayedRecorders.{all_bounds, all_given, result_is, whole_plan}
 use Rattle.ptb_explore.proofs.runner.Runner.check_run.Goals as goal
 
 pub play_from_start-requires-clause-fresh : goal.play_from_start-requires-clause-fresh
@@ -33,7 +33,7 @@ returns c =
     let reads = c.run_laws.ensures.reads old.player old.lines.now old.rules in
     let plan = (recorded c.replay.new.self) in
     let are = c.in_ok-replay.ensures.answers in
-    let new = c.play_from_start.new.self.trial in
+    let new = c.play_from_start.new.self.chooser in
     let shown = c.play_from_start.new.self.report.transcript.items in
     let is = if_none_at c.in_default.is c.run_mismatch.ensures.taken in
     let count : length plan ≡ length c.args.list.now = ap length are ∙ answers_length c.args.list.now in

@@ -12,7 +12,7 @@ use Rattle.ptb_explore.proofs.Keep.{GoesOn, goes_on, kept_none, stands_machine}
 use Rattle.ptb_explore.proofs.Exits.{on_ok_always}
 use Rattle.ptb_explore.proofs.RestoredCopies.{same_plan, none_taken, no_copies, begun_prefix, begun_steps, copy_left}
 use Rattle.ptb_explore.proofs.Recorded.{skipped_bounds}
-use Rattle.ptb_explore.proofs.Trial.{fresh_plan}
+use Rattle.ptb_explore.proofs.PlayedRecorders.{fresh_plan}
 use Rattle.ptb_explore.proofs.AskedLists.{length-bounds_in}
 use Rattle.ptb_explore.proofs.runner.Runner.go_back.Goals as goal
 use Rattle.ptb_explore.proofs.runner.Runner.go_back.Goals.{In-Some}
@@ -20,7 +20,7 @@ use Rattle.ptb_explore.proofs.runner.Runner.go_back.Goals.{In-Some}
 pub returns-in_err-go_back : goal.returns-in_err-go_back
 returns-in_err-go_back c = record {
   same = refl;
-  plan = fresh_plan c.args.self.now.trial c.requires.fresh;
+  plan = fresh_plan c.args.self.now.chooser c.requires.fresh;
   same_lines = refl;
   within = IfOk-from_err _ _ c.from_residual.ensures.0;
   unspent = IfOk-from_err _ _ c.from_residual.ensures.0;
@@ -36,12 +36,12 @@ returns-in-None c =
     (ap (λ k. k.items) c.begin.ensures.kept) in
     record {
       same = refl;
-      plan = fresh_plan c.args.self.now.trial c.requires.fresh;
+      plan = fresh_plan c.args.self.now.chooser c.requires.fresh;
       same_lines = refl;
       within = on_ok_always c.begin.result (none_taken c.args.source.now c.requires.begins);
       unspent = c.begin.ensures.unspent;
       run_prefix = begun_prefix c.begin.result (λ b. b.value) c.args.self.now.player c.args.source.now
-          c.args.self.now.rules c.args.self.now.trial c.requires.fresh c.requires.begins _ c.cut.ensures
+          c.args.self.now.rules c.args.self.now.chooser c.requires.fresh c.requires.begins _ c.cut.ensures
           c.begin.ensures.first;
       copies = on_ok_always c.begin.result
           (kept_none c.args.self.now.player c.args.source.now.lines c.args.self.now.rules _ _ _ left.0);
@@ -88,11 +88,11 @@ returns-in-Some-machine-clause-run_prefix c =
     let on = from_copy (goal.at.returns-in-Some-machine-clause-run_prefix c).In-Some in
     let machine_is : machine_of c.in-Some.copy ≡ Some c.in-Some-machine.machine.value =
     ap (option_map (λ b. b.value)) c.in-Some-machine.is in
-    let given = skipped_bounds c.args.self.now.trial c.assume_given.new.self c.in-Some.copy.taken c.assume_given.ensures.asked
-    c.assume_given.ensures.given in
+    let given = skipped_bounds c.args.self.now.chooser c.assume_given.new.self c.in-Some.copy.taken
+    c.assume_given.ensures.asked c.assume_given.ensures.given in
     rw c.in-Some-machine.is (on_prefix c.args.self.now.player c.args.source.now.lines c.args.self.now.rules
-    c.args.common (recorded c.args.self.now.trial) (answers_in c.args.self.now.report.asked.items)
-    (bounds_in c.args.self.now.trial.asked.items) c.args.screen.now c.go_back.new.self.kept.items
+    c.args.common (recorded c.args.self.now.chooser) (answers_in c.args.self.now.report.asked.items)
+    (bounds_in c.args.self.now.chooser.asked.items) c.args.screen.now c.go_back.new.self.kept.items
     c.in-Some.copy c.requires.agrees on (given_bounds c.assume_given.new.self) (recorded c.assume_given.new.self) given
     (ap answers_in c.assume_given.ensures.asked) _ c.cut-in-Some.new.self c.seek.new.self c.in-Some-machine.machine.value
     c.cut-in-Some.ensures c.seek.ensures machine_is)
@@ -100,11 +100,11 @@ returns-in-Some-machine-clause-run_prefix c =
 pub returns-in-Some-machine-clause-copies : goal.returns-in-Some-machine-clause-copies
 returns-in-Some-machine-clause-copies c =
     let on = from_copy (goal.at.returns-in-Some-machine-clause-copies c).In-Some in
-    let given = skipped_bounds c.args.self.now.trial c.assume_given.new.self c.in-Some.copy.taken c.assume_given.ensures.asked
-    c.assume_given.ensures.given in
+    let given = skipped_bounds c.args.self.now.chooser c.assume_given.new.self c.in-Some.copy.taken
+    c.assume_given.ensures.asked c.assume_given.ensures.given in
     on_copies c.args.self.now.player c.args.source.now.lines c.args.self.now.rules c.args.common
-    (recorded c.args.self.now.trial) (answers_in c.args.self.now.report.asked.items)
-    (bounds_in c.args.self.now.trial.asked.items) c.args.screen.now c.go_back.new.self.kept.items
+    (recorded c.args.self.now.chooser) (answers_in c.args.self.now.report.asked.items)
+    (bounds_in c.args.self.now.chooser.asked.items) c.args.screen.now c.go_back.new.self.kept.items
     c.in-Some.copy c.requires.agrees on (given_bounds c.assume_given.new.self) (recorded c.assume_given.new.self) given
     (ap answers_in c.assume_given.ensures.asked) c.cut-in-Some.new.self c.cut-in-Some.ensures
 
@@ -124,18 +124,18 @@ unreachable-requires c =
 
 pub assume_given-requires-clause-within : goal.assume_given-requires-clause-within
 assume_given-requires-clause-within c =
-    let trial = c.args.self.now.trial in
+    let chooser = c.args.self.now.chooser in
     let on = from_copy (goal.at.assume_given-requires-clause-within c).In-Some in
     let few = on_len c.args.self.now.player c.args.source.now.lines c.args.self.now.rules c.args.common
-    (recorded trial) (answers_in c.args.self.now.report.asked.items) (bounds_in trial.asked.items) c.args.screen.now
+    (recorded chooser) (answers_in c.args.self.now.report.asked.items) (bounds_in chooser.asked.items) c.args.screen.now
     c.go_back.new.self.kept.items c.in-Some.copy c.requires.agrees on in
-    omega (arith, few, length-bounds_in trial.asked.items, trial.asked.ok.0)
+    omega (arith, few, length-bounds_in chooser.asked.items, chooser.asked.ok.0)
 
 pub returns-in-Some-machine-clause-same : goal.returns-in-Some-machine-clause-same
 returns-in-Some-machine-clause-same c = refl
 
 pub returns-in-Some-machine-clause-plan : goal.returns-in-Some-machine-clause-plan
-returns-in-Some-machine-clause-plan c = same_plan c.args.self.now.trial c.assume_given.new.self c.requires.fresh
+returns-in-Some-machine-clause-plan c = same_plan c.args.self.now.chooser c.assume_given.new.self c.requires.fresh
     (ap answers_in c.assume_given.ensures.asked) c.assume_given.ensures.planned
 
 pub returns-in-Some-machine-clause-same_lines : goal.returns-in-Some-machine-clause-same_lines

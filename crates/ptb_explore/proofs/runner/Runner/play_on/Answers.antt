@@ -26,20 +26,20 @@ taken_length r = length-take-le (length (given_bounds r)) (recorded r)
 -- the machine is where the play is, after it advanced
 advances : (c : After-advance)
     → IsRunPrefix c.advance.new.self c.args.source.now.lines c.args.self.now.rules
-    (recorder_choices c.loop-ending.self.trial)
+    (recorder_choices c.loop-ending.self.chooser)
     c.loop-ending.screen (drop c.loop-ending.source.taken c.loop-ending.source.lines) c.advance.new.machine
 advances c =
     let turns = c.advance.ensures.turns in
     advanced c.run_laws.ensures c.loop-ending.self.player c.args.source.now.lines c.args.self.now.rules
-    c.advance.new.self turns.0 c.loop-ending.machine c.advance.new.machine (recorder_choices c.loop-ending.self.trial)
+    c.advance.new.self turns.0 c.loop-ending.machine c.advance.new.machine (recorder_choices c.loop-ending.self.chooser)
     c.loop-ending.screen _ c.advance.ensures.program c.loop-ending.invariant.run_prefix turns.1.1
 
 -- its plan stays, and it ends as the step says
 ended : (c : In-Ok-Some)
     → IsRunPrefix c.advance.new.self c.args.source.now.lines c.args.self.now.rules
-    (recorder_choices c.loop-ending.self.trial)
+    (recorder_choices c.loop-ending.self.chooser)
     c.loop-ending.screen (drop c.loop-ending.source.taken c.loop-ending.source.lines) c.advance.new.machine
-    → ((recorder_choices c.step.new.chooser).plan ≡ (recorder_choices c.loop-ending.self.trial).plan)
+    → ((recorder_choices c.step.new.chooser).plan ≡ (recorder_choices c.loop-ending.self.chooser).plan)
     × PlayEnds (play c.advance.new.self c.args.source.now.lines c.args.self.now.rules)
     (recorder_choices c.step.new.chooser)
     c.step.new.chooser.refused_bound c.step.new.machine.steps c.step.new.screen c.in-Ok-Some.ending
@@ -60,7 +60,7 @@ loop-ending-preserved c =
     let input = c.args.source.now.lines in
     let is : c.step.result ≡ Ok None = c.in-Ok-None.is ∙ ap Ok c.in-Ok-None.field-0-is in
     let turn = c.step.ensures.step.turn in
-    let old = recorder_choices l.self.trial in
+    let old = recorder_choices l.self.chooser in
     let new = recorder_choices c.step.new.chooser in
     let u = advances (goal.at.loop-ending-preserved c).After-advance in
     let x = step_goes c.run_laws.ensures c.advance.new.self input c.args.self.now.rules _ _ _ _ _ _ turn.given _ _ _ _ _
@@ -70,7 +70,8 @@ loop-ending-preserved c =
     let same_lines = turn.gives.same_lines ∙ i.same_lines in
     let within : c.step.new.source.taken ≤ length input = rw (← i.same_lines)
     (taken_within l.source c.step.new.source turn.given turn.gives (rw i.same_lines i.within)) in
-    let before : l.self.trial.given ≡ length old.taken = given_len l.self.trial ∙ sym (taken_length l.self.trial) in
+    let before : l.self.chooser.given ≡ length old.taken =
+    given_len l.self.chooser ∙ sym (taken_length l.self.chooser) in
     let taken : c.step.new.chooser.given ≡ length (old.taken ++ more.answers) =
     given_len c.step.new.chooser ∙ sym (taken_length c.step.new.chooser) ∙ ap length more.taken in
     let stands : (k : _) → _ → _ → IsCopyAt c.advance.new.self input c.args.self.now.rules k (old.taken ++ more.answers)
@@ -137,7 +138,7 @@ returns-in-Ok-Some-clause-copies c =
     let i = l.invariant in
     let input = c.args.source.now.lines in
     let turn = c.step.ensures.step.turn in
-    let old = recorder_choices l.self.trial in
+    let old = recorder_choices l.self.chooser in
     let new = recorder_choices c.step.new.chooser in
     let u = advances (goal.at.returns-in-Ok-Some-clause-copies c).After-advance in
     let more = step_extends c.advance.new.self input c.args.self.now.rules _ _ old new _ _ turn.given _ _ _ _ _ u

@@ -31,7 +31,7 @@ returns-clause-ends c =
     let old = c.args.self.now in
     let back = c.go_back-machine.new.self in
     let same = c.go_back-machine.ensures.same in
-    let trial = c.play_counted-ending.new.self.trial in
+    let chooser = c.play_counted-ending.new.self.chooser in
     let steps = c.play_counted-ending.new.machine.steps in
     let shown = c.play_counted-ending.new.screen in
     let lines : c.go_back-machine.new.source.lines ≡ old.lines.now =
@@ -39,7 +39,7 @@ returns-clause-ends c =
     let game = game_is old.player back.player old.lines.now c.go_back-machine.new.source.lines old.rules back.rules
     (ap (λ (r : Runner). r.player) same) lines (ap (λ (r : Runner). r.rules) same) in
     let ends = subst (λ (g : Answers → Outcome Finish (List ℕ)). PlayEnds g
-    (recorder_choices trial) trial.refused_bound steps shown c.in_ok-self.field-0) game c.in_ok-self.ensures.ends in
+    (recorder_choices chooser) chooser.refused_bound steps shown c.in_ok-self.field-0) game c.in_ok-self.ensures.ends in
     rw (c.into_vec.ensures, c.steps-steps.ensures, c.deref.ensures) ends
 
 pub returns-clause-copies : goal.returns-clause-copies
@@ -51,7 +51,7 @@ returns-clause-copies c =
     c.go_back-machine.ensures.same_lines ∙ ap (λ (s : LineList). s.lines) c.new-source.ensures in
     copies_stay back.player old.player c.go_back-machine.new.source.lines old.lines.now back.rules old.rules
     (sym (ap (λ (r : Runner). r.player) same)) (sym lines) (sym (ap (λ (r : Runner). r.rules) same))
-    (recorder_choices c.play_counted-ending.new.self.trial).taken _ c.play_counted-ending.new.screen _
+    (recorder_choices c.play_counted-ending.new.self.chooser).taken _ c.play_counted-ending.new.screen _
     c.play_counted-ending.new.self.copies.kept.items _
     refl c.into_vec.ensures (ap (λ k. k.items) c.recycle.ensures) c.in_ok-self.ensures.copies
 

@@ -24,28 +24,28 @@ returns-in-None-clause-next c =
     let rules = c.args.self.now.rules in
     let report = c.args.self.now.report in
     let plans : PlansNext (answers_of c.args.under.now) c.args.position (answers_in report.asked.items)
-    (bounds_in report.asked.items) (recorded c.plan_next.new.trial) None =
+    (bounds_in report.asked.items) (recorded c.plan_next.new.chooser) None =
     rw (← c.deref.ensures.value, ← c.in-None.is) c.in_ok-plan_next.ensures.plan in
     last_plan (play p input rules) (most_answers p input rules.limit) (c.run_laws.ensures.reads p input rules)
-    (answers_of c.args.under.now) c.args.position (answers_in report.asked.items) (recorded c.plan_next.new.trial)
+    (answers_of c.args.under.now) c.args.position (answers_in report.asked.items) (recorded c.plan_next.new.chooser)
     (bounds_in report.asked.items) c.requires.position plans
 
 -- the plan that comes next
 planned : (c : In-Some) → PlansNext (answers_of c.args.under.now) c.args.position
     (answers_in c.args.self.now.report.asked.items) (bounds_in c.args.self.now.report.asked.items)
-    (recorded c.plan_next.new.trial) (Some c.in-Some.common)
+    (recorded c.plan_next.new.chooser) (Some c.in-Some.common)
 planned c = rw (← c.deref.ensures.value, ← c.in-Some.is) c.in_ok-plan_next.ensures.plan
 
 next_is : (c : In-Some)
     → IsPlan (play c.args.self.now.player c.args.self.now.lines.now c.args.self.now.rules) (answers_of c.args.under.now)
-    (front_at c.args.position (answers_in c.args.self.now.report.asked.items)) (recorded c.plan_next.new.trial)
+    (front_at c.args.position (answers_in c.args.self.now.report.asked.items)) (recorded c.plan_next.new.chooser)
 next_is c =
     let p = c.args.self.now.player in
     let input = c.args.self.now.lines.now in
     let rules = c.args.self.now.rules in
     let report = c.args.self.now.report in
     next_plan (play p input rules) (most_answers p input rules.limit) (c.run_laws.ensures.reads p input rules)
-    (answers_of c.args.under.now) c.args.position (answers_in report.asked.items) (recorded c.plan_next.new.trial)
+    (answers_of c.args.under.now) c.args.position (answers_in report.asked.items) (recorded c.plan_next.new.chooser)
     (bounds_in report.asked.items) c.in-Some.common c.requires.position (planned c)
 
 -- so some run is left
@@ -59,7 +59,7 @@ none_last c last =
     let report = c.args.self.now.report in
     plan_left (play p input rules) (most_answers p input rules.limit) (c.run_laws.ensures.reads p input rules)
     (answers_of c.args.under.now) (front_at c.args.position (answers_in report.asked.items))
-    (recorded c.plan_next.new.trial) (next_is c) last
+    (recorded c.plan_next.new.chooser) (next_is c) last
 
 pub report_plan-requires-clause-opens : goal.report_plan-requires-clause-opens
 report_plan-requires-clause-opens c = (next_is (goal.at.report_plan-requires-clause-opens c).In-Some).opens
@@ -75,18 +75,18 @@ returns-in_ok-report_plan-in-Some-clause-next c =
       record { outcome = run.outcome; bounds_are = run.bounds_are },
       plan_ends (play p input rules) (most_answers p input rules.limit) (c.run_laws.ensures.reads p input rules)
           (answers_of c.args.under.now) (front_at c.args.position (answers_in report.asked.items))
-          (recorded c.plan_next.new.trial) _ _ _ next run,
+          (recorded c.plan_next.new.chooser) _ _ _ next run,
     )
 
 pub report_plan-requires-clause-resumes : goal.report_plan-requires-clause-resumes
 report_plan-requires-clause-resumes c =
     let report = c.args.self.now.report in
-    let plan = recorded c.plan_next.new.trial in
+    let plan = recorded c.plan_next.new.chooser in
     let plans = planned (goal.at.report_plan-requires-clause-resumes c).In-Some in
     let near = next_agrees (play c.args.self.now.player c.args.self.now.lines.now c.args.self.now.rules)
     (answers_of c.args.under.now) c.args.position (answers_in report.asked.items) plan
     (bounds_in report.asked.items) c.in-Some.common c.requires.position plans in
-    let bounds : take c.in-Some.common (bounds_in c.plan_next.new.trial.asked.items)
+    let bounds : take c.in-Some.common (bounds_in c.plan_next.new.chooser.asked.items)
     ≡ take c.in-Some.common (bounds_in report.asked.items) =
     rw (← c.deref.ensures.value) (if_some_at _ c.in-Some.is c.in_ok-plan_next.ensures.bounds) in
     record {
@@ -99,7 +99,7 @@ report_plan-requires-clause-resumes c =
 pub returns-in_ok-report_plan-in-Some-clause-played : goal.returns-in_ok-report_plan-in-Some-clause-played
 returns-in_ok-report_plan-in-Some-clause-played c =
     let report = c.args.self.now.report in
-    let plan = recorded c.plan_next.new.trial in
+    let plan = recorded c.plan_next.new.chooser in
     let plans = planned (goal.at.returns-in_ok-report_plan-in-Some-clause-played c).In-Some in
     let run = c.in_ok-report_plan-in-Some.ensures.ends in
     next_played c.args.self.now.player c.args.self.now.lines.now c.args.self.now.rules (answers_of c.args.under.now)

@@ -10,14 +10,14 @@ use Rattle.ptb_explore.specs.Recorders.{recorder_choices, given_bounds, recorded
 use Rattle.ptb_explore.proofs.WrittenTexts.{on_err_always}
 use Rattle.ptb_explore.proofs.Keep.{kept_same}
 use Rattle.ptb_explore.proofs.Runners.{changed}
-use Rattle.ptb_explore.proofs.Trial.{all_bounds, all_given, open_ends}
+use Rattle.ptb_explore.proofs.PlayedRecorders.{all_bounds, all_given, open_ends}
 use Rattle.ptb_explore.proofs.runner.Runner.report_plan.Goals as goal
 
 -- the plan was played to the end of a run
 ended : (c : goal.After-exchange_answers)
     → PlanEndsWith (play c.args.self.now.player c.args.self.now.lines.now c.args.self.now.rules)
-    (recorded c.args.self.now.trial) (recorded c.play_plan.new.self.trial) (given_bounds c.play_plan.new.self.trial)
-    (record {
+    (recorded c.args.self.now.chooser) (recorded c.play_plan.new.self.chooser)
+    (given_bounds c.play_plan.new.self.chooser) (record {
       ending = c.play_plan.new.self.report.ending;
       steps = c.play_plan.new.self.report.steps;
       shown = c.play_plan.new.self.report.transcript.items;
@@ -27,8 +27,8 @@ ended c =
     let input = c.args.self.now.lines.now in
     let rules = c.args.self.now.rules in
     let report = c.play_plan.new.self.report in
-    open_ends (play p input rules) c.play_plan.new.self.trial report.steps report.transcript.items
-    (most_answers p input rules.limit) (c.run_laws.ensures.reads p input rules) (recorded c.args.self.now.trial)
+    open_ends (play p input rules) c.play_plan.new.self.chooser report.steps report.transcript.items
+    (most_answers p input rules.limit) (c.run_laws.ensures.reads p input rules) (recorded c.args.self.now.chooser)
     c.in_ok-play_plan.ensures.plan c.requires.opens report.ending c.in_ok-play_plan.ensures.ends
 
 pub returns-clause-ends : goal.returns-clause-ends
@@ -37,7 +37,7 @@ returns-clause-ends c =
     rw (
       c.exchange_answers.ensures.asked,
       all_bounds (play c.args.self.now.player c.args.self.now.lines.now
-          c.args.self.now.rules) c.play_plan.new.self.trial run.bounds_are,
+          c.args.self.now.rules) c.play_plan.new.self.chooser run.bounds_are,
     ) run
 
 pub returns-clause-copies : goal.returns-clause-copies
@@ -45,9 +45,9 @@ returns-clause-copies c =
     let old = c.args.self.now in
     let new = c.play_plan.new.self in
     let run = ended c in
-    kept_same old.player old.player old.lines.now old.lines.now old.rules (recorder_choices new.trial).taken _
+    kept_same old.player old.player old.lines.now old.lines.now old.rules (recorder_choices new.chooser).taken _
     new.report.transcript.items _ new.copies.kept.items _ refl refl (ap answers_in c.exchange_answers.ensures.asked
-    ∙ sym (all_given (play old.player old.lines.now old.rules) new.trial run.bounds_are)) refl refl
+    ∙ sym (all_given (play old.player old.lines.now old.rules) new.chooser run.bounds_are)) refl refl
     c.in_ok-play_plan.ensures.copies
 
 pub returns-in_err-play_plan : goal.returns-in_err-play_plan

@@ -45,9 +45,9 @@ module _ {A W : Type 0} (play : Answers → Outcome A W) (r : Recorder) (result 
   }
 
   -- a plan that is open was played to its end
-  pub trial_ends : (most : ℕ) → IsReader play most → is_open (play (take r.planned (recorded r))) ≡ true
+  pub recorder_ends : (most : ℕ) → IsReader play most → is_open (play (take r.planned (recorded r))) ≡ true
       → PlanEndsWith play (take r.planned (recorded r)) (recorded r) (given_bounds r) result
-  trial_ends most reads o = ends_at play most reads (take r.planned (recorded r)) (recorded r) r.planned
+  recorder_ends most reads o = ends_at play most reads (take r.planned (recorded r)) (recorded r) r.planned
       (length (given_bounds r)) result recorder_took (given_bounds r) o taken_bounds
 
 -- ---- by the ending
@@ -87,8 +87,8 @@ module _ (play : Answers → Outcome Finish (List ℕ)) (r : Recorder) (steps : 
     ended_so : (e : Ending)
         → Holds play (recorder_choices r) (λ later. Done (record { ending = e; steps = steps; shown = shown }) later)
         → PlanEndsWith play plan (recorded r) (given_bounds r) (record { ending = e; steps = steps; shown = shown })
-    ended_so e h = rw (← planned) (trial_ends play r (record { ending = e; steps = steps; shown = shown }) h most reads
-        (rw planned opens))
+    ended_so e h = rw (← planned) (recorder_ends play r (record { ending = e; steps = steps; shown = shown }) h most
+        reads (rw planned opens))
 
     -- a plan that is open is played to an end
     pub open_ends : (e : Ending) → PlayEnds play (recorder_choices r) r.refused_bound steps shown e

@@ -4,7 +4,7 @@ use Rattle.std.proofs.Common.{get_or, FitsSigned, w16, to_z-of_z}
 use Rattle.std.proofs.lemmas.List.{map-append, take_more}
 use Rattle.ptb_answers.specs.declared.form.Marked.{Marked}
 use Rattle.ptb_answers.specs.AnswerText.{unmarked, without_bound}
-use Rattle.ptb_explore.proofs.form.unmarked.Goals as goal
+use Rattle.ptb_explore.proofs.item_lists.unmarked.Goals as goal
 
 pub loop-answer-preserved : goal.loop-answer-preserved
 loop-answer-preserved c =

@@ -3,7 +3,7 @@ use Rattle.std.proofs.Common.{rules, ◌≡◌, ◌∙◌, sym, pos, get_or, Fit
 use Rattle.ptb_answers.specs.declared.form.Marked.{Marked}
 use Rattle.ptb_answers.specs.AnswerText.{without_bound}
 use Rattle.ptb_explore.proofs.Stated.{same_answer, too_short}
-use Rattle.ptb_explore.proofs.form.items_begin_with.Goals as goal
+use Rattle.ptb_explore.proofs.item_lists.items_begin_with.Goals as goal
 
 abbrev none : Marked
 none = without_bound (pos 0)

@@ -2,7 +2,7 @@
 use Rattle.std.proofs.Common.{◌≡◌, drop}
 use Rattle.ptb_answers.specs.AnswerText.{answers_of}
 use Rattle.ptb_explore.specs.RunTree.{begins_with}
-use Rattle.ptb_explore.proofs.form.items_begin_with.Given as goal
+use Rattle.ptb_explore.proofs.item_lists.items_begin_with.Given as goal
 
 abbrev pub invariant-loop-k : goal.invariant-loop-k
 invariant-loop-k l = begins_with (answers_of (drop l.k l.list)) (answers_of (drop l.k l.under))
