@@ -9,7 +9,7 @@ use Rattle.ptb_command.specs.declared.ending.Ending.{Ending}
 use Rattle.ptb_command.specs.Configuration.{Configuration}
 use Rattle.ptb_code.specs.State.{State}
 use Rattle.ptb_machine.specs.Laws.{RunLaws}
-use Rattle.ptb_machine.specs.Steps.{QuietTurns}
+use Rattle.ptb_machine.specs.Steps.{PlainTurns}
 use Rattle.ptb_explore.specs.PlannedPlays.{run_from}
 use Rattle.ptb_chances.specs.Standing.{Came, IsOver, SameEnd, IsStageAt}
 use Rattle.ptb_chances.proofs.PlaySteps.{advanced}
@@ -89,7 +89,7 @@ pub record HasAdvanced (p q : StoredProgram) (rules r : Rules) (m new : Configur
   pub lines_are : now ≡ left
   pub text_is : text ≡ shown
   pub count : ℕ
-  pub turns : QuietTurns q r.limit count m new
+  pub turns : PlainTurns q r.limit count m new
 
 module _ (laws : RunLaws) (p q : StoredProgram) (rules r : Rules) (S : State) (m new : Configuration)
     (left now : List (List ℕ)) (shown text : List ℕ) (a : HasAdvanced p q rules r m new left now shown text)
@@ -98,7 +98,7 @@ module _ (laws : RunLaws) (p q : StoredProgram) (rules r : Rules) (S : State) (m
   pub gone : Came q r S [] new now text
   gone =
       came_named q q r r S [] [] new new left now shown text refl refl refl refl (sym a.lines_are) (sym a.text_is)
-      (advanced laws q r q a.count S m new [] shown left refl (came_named p q rules r S [] [] m m left left shown shown
+      (advanced laws q r a.count S m new [] shown left (came_named p q rules r S [] [] m m left left shown shown
       (sym a.program) (sym a.by) refl refl refl refl u) a.turns)
 
   pub gone_opens : (b : Answers) → b ≡ [] → is_open (run_from p rules S []) ≡ true
@@ -155,6 +155,6 @@ module _ (p q : StoredProgram) (rules r : Rules) (program : q ≡ p) (by : r ≡
       rest_is refl (came_later q r S a m now shown named k rest end (goes named.state named.stands))
 
 pub turns_named : (q p : StoredProgram) (r rules : Rules) (n : ℕ) (m new : Configuration) → q ≡ p → r ≡ rules
-    → QuietTurns q r.limit n m new → QuietTurns p rules.limit n m new
-turns_named q p r rules n m new program by x = subst (λ (z : StoredProgram). QuietTurns z rules.limit n m new) program
-    (subst (λ (z : Rules). QuietTurns q z.limit n m new) by x)
+    → PlainTurns q r.limit n m new → PlainTurns p rules.limit n m new
+turns_named q p r rules n m new program by x = subst (λ (z : StoredProgram). PlainTurns z rules.limit n m new) program
+    (subst (λ (z : Rules). PlainTurns q z.limit n m new) by x)

@@ -24,7 +24,7 @@ use Rattle.ptb_command.specs.Configuration.{Configuration}
 use Rattle.ptb_command.specs.Effects.{act_state}
 use Rattle.ptb_command.specs.Stops.{AsksUnanswered, IsOutOfLines}
 use Rattle.ptb_devices.specs.Sources.{Gives, LineList}
-use Rattle.ptb_machine.specs.Steps.{FitsProgram, QuietTurns, Steps}
+use Rattle.ptb_machine.specs.Steps.{FitsProgram, PlainTurns, Steps}
 use Rattle.ptb_machine.specs.TurnResults.{StepsTo, goes, ends, StepComes}
 use Rattle.ptb_explore.specs.Chances.{last_line}
 use Rattle.ptb_explore.specs.PlannedPlays.{run_from}
@@ -188,21 +188,14 @@ module _ (laws : RunLaws) (p : StoredProgram) (rules : Rules) where
       turn_came S m new c d s t given left rest most few u
       (step_comes S m new c d s t given left rest most few refused r (Ok None) u is l follows steps)
 
-  turns_came : (n : ℕ) (S : State) (old new : Configuration) (a : Answers) (s : List ℕ) (left : List (List ℕ))
-      → Came p rules S a old left s → QuietTurns p rules.limit n old new → Came p rules S a new left s
-  turns_came zero S old new a s left u same = subst (λ (m : Configuration). Came p rules S a m left s) (sym same) u
-  turns_came (suc n) S old new a s left u turns =
+  pub advanced : (n : ℕ) (S : State) (old new : Configuration) (a : Answers) (s : List ℕ) (left : List (List ℕ))
+      → Came p rules S a old left s → PlainTurns p rules.limit n old new → Came p rules S a new left s
+  advanced zero S old new a s left u same = subst (λ (m : Configuration). Came p rules S a m left s) (sym same) u
+  advanced (suc n) S old new a s left u turns =
       let c : Choices = record { plan = []; taken = a; kept = None } in
       step_came S turns.0 new c c s s [] left left 1 1 nothing_refused (Ok None) refl
-      (turns_came n S old turns.0 a s left u turns.1) refl (λ none. absurd (omega (arith, none)))
+      (advanced n S old turns.0 a s left u turns.1) refl (λ none. absurd (omega (arith, none)))
       (turns.2 (devices c (text_state s) 1 rules.choose []) refl)
-
-  -- by a player that plays q
-  pub advanced : (q : StoredProgram) (n : ℕ) (S : State) (old new : Configuration) (a : Answers) (s : List ℕ)
-      (left : List (List ℕ))
-      → q ≡ p → Came p rules S a old left s → QuietTurns p rules.limit n old new → Came q rules S a new left s
-  advanced q n S old new a s left same u turns =
-      subst (λ (x : StoredProgram). Came x rules S a new left s) (sym same) (turns_came n S old new a s left u turns)
 
   module _ (S : State) (m new : Configuration) (c : Choices) (l : PlanAnswers) (s t : List ℕ)
       (given left rest : List (List ℕ)) (most few : ℕ) (r : Result (Option Ending) RunFault)
@@ -253,14 +246,13 @@ module _ (laws : RunLaws) (p : StoredProgram) (rules : Rules) where
     over_or_asks endings.BadAnswer b is = absurd (b refl)
 
     -- it is over, or it asks
-    pub step_plays : (e : Ending) (q : StoredProgram) (plan : Answers) (x : Played) → p ≡ q → l.answers ≡ plan
+    pub step_plays : (e : Ending) (plan : Answers) (x : Played) → l.answers ≡ plan
         → (e ≡ endings.BadAnswer → ⊥) → r ≡ Ok (Some e) → x ≡ played_of e l.refused_bound
-        → PlaysTo q rules S (take l.given plan) plan new rest t x
-    step_plays e q plan x program answers b is same =
-        subst (λ (y : Played). PlaysTo q rules S (take l.given plan) plan new rest t y) (sym same)
-        (subst (λ (a : Answers). PlaysTo q rules S (take l.given a) a new rest t (played_of e l.refused_bound)) answers
-        (subst (λ (z : StoredProgram). PlaysTo z rules S (take l.given l.answers) l.answers new rest t
-        (played_of e l.refused_bound)) program (over_or_asks e b is)))
+        → PlaysTo p rules S (take l.given plan) plan new rest t x
+    step_plays e plan x answers b is same =
+        subst (λ (y : Played). PlaysTo p rules S (take l.given plan) plan new rest t y) (sym same)
+        (subst (λ (a : Answers). PlaysTo p rules S (take l.given a) a new rest t (played_of e l.refused_bound)) answers
+        (over_or_asks e b is))
 
     pub never_out : is_open (run_from p rules S l.answers) ≡ true → r ≡ Ok (Some endings.BadAnswer) → ⊥
     never_out opens is = let w : Comes (Ok (Some endings.BadAnswer)) = comes (Ok (Some endings.BadAnswer)) is in
@@ -296,12 +288,12 @@ came_first p rules S a m left shown none h =
 
 -- ---- the same, by other names
 
-pub came_by : (q p : StoredProgram) (rules : Rules) (S : State) (a b : Answers) (m : Configuration)
+pub came_by : (p : StoredProgram) (rules : Rules) (S : State) (a b : Answers) (m : Configuration)
     (left now : List (List ℕ)) (shown : List ℕ)
-    → q ≡ p → a ≡ b → left ≡ now → Came q rules S a m left shown → Came p rules S b m now shown
-came_by q p rules S a b m left now shown program answers lines_are x =
-    subst (λ (r : StoredProgram). Came r rules S b m now shown) program (subst (λ (d : Answers). Came q rules S d m now
-    shown) answers (subst (λ (ls : List (List ℕ)). Came q rules S a m ls shown) lines_are x))
+    → a ≡ b → left ≡ now → Came p rules S a m left shown → Came p rules S b m now shown
+came_by p rules S a b m left now shown answers lines_are x =
+    subst (λ (d : Answers). Came p rules S d m now shown) answers
+    (subst (λ (ls : List (List ℕ)). Came p rules S a m ls shown) lines_are x)
 
 pub plays_by : (p : StoredProgram) (rules : Rules) (S : State) (given plan : Answers) (m : Configuration)
     (left now : List (List ℕ)) (shown : List ℕ) (x : Played)

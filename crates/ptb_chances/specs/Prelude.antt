@@ -8,9 +8,9 @@ pub use Rattle.ptb_explore.specs.RunTree.{tree}
 pub use Rattle.ptb_command.specs.Configuration.{Configuration}
 pub use Rattle.ptb_machine.specs.Play.{play}
 pub use Rattle.ptb_machine.specs.Questions.{most_answers}
-pub use Rattle.ptb_command.specs.Representation.{Represents}
-pub use Rattle.ptb_code.specs.State.{State, first_state}
-pub use Rattle.ptb_machine.specs.Steps.{FitsProgram, QuietTurns}
+pub use Rattle.ptb_code.specs.State.{State}
+pub use Rattle.ptb_machine.specs.Beginnings.{IsAtFirst}
+pub use Rattle.ptb_machine.specs.Steps.{FitsProgram, PlainTurns}
 pub use Rattle.ptb_numbers.specs.Decimals.{decimals}
 pub use Rattle.ptb_numbers.specs.Fractions.{lowest, Equals, plus}
 pub use Rattle.ptb_numbers.specs.Lowest.{ratio_of}

@@ -49,7 +49,7 @@ pub(crate) struct PlayDevices<'l> {
 ///
 /// Where a growth was refused memory.
 pub(crate) fn play_plan(
-    player: &mut Player,
+    player: &Player,
     rules: Rules,
     machine: &mut Machine,
     answers: &[i16],
@@ -57,17 +57,16 @@ pub(crate) fn play_plan(
 ) -> Result<Played, AllocError>
     requires unspent { machine.old.spent ≡ false }
     requires within { devices.old.source.taken ≤ length devices.old.source.lines }
-    requires opens { (S : State) × IsStageAt player.old rules machine.old
+    requires opens { (S : State) × IsStageAt player.now rules machine.old
         (drop devices.old.source.taken devices.old.source.lines) devices.old.screen S
-        × (is_open (run_from player.old rules S answers.now) ≡ true) }
-    ensures program { player.new ≡ player.old }
+        × (is_open (run_from player.now rules S answers.now) ≡ true) }
     ensures same_lines { devices.new.source.lines ≡ devices.old.source.lines }
     ensures within { IfOk result (λ _.
         devices.new.source.taken ≤ length devices.old.source.lines) }
     ensures plays { IfOk result (λ played. (given : ℕ) × ((S : State) →
-        IsStageAt player.old rules machine.old
+        IsStageAt player.now rules machine.old
         (drop devices.old.source.taken devices.old.source.lines) devices.old.screen S
-        → PlaysTo player.old rules S (take given answers.now) answers.now
+        → PlaysTo player.now rules S (take given answers.now) answers.now
         machine.new (drop devices.new.source.taken devices.old.source.lines) devices.new.screen
         played)) }
     ensures goes { IfOk result (λ played. played ≡ Played.Goes →

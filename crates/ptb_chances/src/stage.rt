@@ -2,7 +2,7 @@
 
 ghost use Rattle.std.specs.Prelude.{◌≡◌, ◌+◌, ◌-◌, ◌<◌, ◌≤◌, ℕ, [], None, false, true, drop, take, length, IfOk, OnOk};
 ghost use Rattle.ptb_chances.specs.Prelude.{is_open, State, run_from, ComesTo, GoesOn, CanPlay, PlaysTo, SameEnd};
-ghost use Rattle.ptb_chances.specs.Prelude.{IsStageAt, IsStageAtPlace, FitsProgram, QuietTurns};
+ghost use Rattle.ptb_chances.specs.Prelude.{IsStageAt, IsStageAtPlace, FitsProgram, PlainTurns};
 
 use crate::last_line::last_lines;
 use crate::plays::{PlayDevices, Played, play_plan};
@@ -45,7 +45,7 @@ impl<'p, 'l> Stage<'p, 'l> {
         self.devices.screen = TextScreen::from_vec(Vec::from_slice(alloc, &place.shown)?);
         self.devices.source.seek(place.taken);
         play_plan(
-            &mut self.player,
+            &self.player,
             self.rules,
             &mut self.machine,
             &plan.answers,
@@ -60,7 +60,7 @@ impl<'p, 'l> Stage<'p, 'l> {
         ensures rules { self.new.rules ≡ self.old.rules }
         ensures devices { self.new.devices ≡ self.old.devices }
         ensures turns { (n : ℕ) × ((self.new.machine.steps ≡ self.old.machine.steps + n)
-            × QuietTurns self.old.player self.old.rules.limit n self.old.machine self.new.machine) }
+            × PlainTurns self.old.player self.old.rules.limit n self.old.machine self.new.machine) }
         ensures spent { self.new.machine.spent ≡ self.old.machine.spent }
         ensures machine { OnOk result (self.new.before.machine ≡ self.new.machine) }
         ensures taken { OnOk result (self.new.before.taken ≡ self.old.devices.source.taken) }
@@ -101,7 +101,7 @@ impl<'p, 'l> Stage<'p, 'l> {
         'commands: loop {
             self.advance(alloc)?;
             match play_plan(
-                &mut self.player,
+                &self.player,
                 self.rules,
                 &mut self.machine,
                 &[],

@@ -1,9 +1,9 @@
 // This file has what is left to be played of all runs: where plays are, with the chance and the
 // number of the plays that have come there.
 
-ghost use Rattle.std.specs.Prelude.{◌≡◌, ℕ, ◌<ℤ◌, ◌≤ℤ◌, pos, false, List, [], ◌∷◌, ◌++◌, map, unsigned_abs, Option};
-ghost use Rattle.std.specs.Prelude.{IsTrue, ◌+◌, ◌<◌, IfOk, OnOk, IfSome, IfNone, ℤ};
-ghost use Rattle.ptb_chances.specs.Prelude.{Configuration, Represents, first_state, Equals, plus, after_answer};
+ghost use Rattle.std.specs.Prelude.{◌≡◌, ◌<ℤ◌, ◌≤ℤ◌, pos, [], ◌∷◌, ◌++◌, map, unsigned_abs, IsTrue};
+ghost use Rattle.std.specs.Prelude.{◌+◌, ◌<◌, IfOk, OnOk, IfSome, IfNone};
+ghost use Rattle.ptb_chances.specs.Prelude.{Configuration, IsAtFirst, Equals, plus, after_answer};
 ghost use Rattle.ptb_chances.specs.Prelude.{first_standing, gone_to, planned, standings, Puts, PutsAnswers};
 ghost use Rattle.ptb_chances.specs.Prelude.{states_left, Takes, unplanned};
 
@@ -64,10 +64,7 @@ impl Place {
     ///
     /// Where there is no memory for it.
     pub(crate) fn first(alloc: Global, player: &Player) -> Result<Place, AllocError>
-        ensures machine { IfOk result (λ place.
-            (place.machine.spent ≡ false)
-            × ((input : List (List ℕ)) (choose : Option ℤ) → Represents player.now.lines
-            place.machine (first_state player.now input choose))) }
+        ensures machine { IfOk result (λ place. IsAtFirst player.now place.machine) }
         ensures taken { IfOk result (λ place. place.taken ≡ 0) }
         ensures shown { IfOk result (λ place. place.shown.items ≡ []) }
     {
@@ -174,9 +171,7 @@ impl Worklist {
     /// Where a growth was refused memory.
     pub(crate) fn begin(alloc: Global, player: &Player) -> Result<Worklist, AllocError>
         ensures { IfOk result (λ work. (m : Configuration)
-            × (standings work ≡ first_standing m ∷ []) × (m.spent ≡ false)
-            × ((input : List (List ℕ)) (choose : Option ℤ) →
-            Represents player.now.lines m (first_state player.now input choose))) }
+            × (standings work ≡ first_standing m ∷ []) × IsAtFirst player.now m) }
     {
         let mut plans = Vec::new(alloc);
         plans.push(Plan::first(alloc)?)?;

@@ -3,7 +3,11 @@
 //!
 //! It depends on `ptb_code`, which reads commands into code, on `ptb_devices`, `ptb_expr`,
 //! `ptb_answers`, `ptb_text` and `itoa`. The crate above may rely on `Registers::execute`: a command
-//! does by its code what `specs/Act` says, or stops where that does.
+//! does by its code what `specs/Act` says, or stops where that does. It may also rely on the parts of
+//! commands of which its short forms are made, `own_value` (the value of an expression that asks
+//! nothing), `place_after_condition` (where a run continues after an IF) and `end_newest_turn` (what a
+//! NEXT does to the newest loop), and on those of a report, `fault_line` (the line that names a fault)
+//! and `put` (shows bytes).
 #![tactic(auto)]
 
 mod command_io;

@@ -24,7 +24,7 @@ use Rattle.ptb_command.specs.Configuration.{Configuration}
 use Rattle.ptb_command.specs.Effects.{act_state}
 use Rattle.ptb_command.specs.Representation.{Represents}
 use Rattle.ptb_command.specs.Stops.{AsksUnanswered, IsOutOfLines}
-use Rattle.ptb_machine.specs.Steps.{QuietTurns, Steps}
+use Rattle.ptb_machine.specs.Steps.{PlainTurns, Steps}
 use Rattle.ptb_machine.specs.TurnResults.{StepsTo, goes, ends, StepComes}
 use Rattle.ptb_answers.specs.declared.rules.Rules.{Rules}
 use Rattle.ptb_machine.specs.Questions.{most_answers}
@@ -263,21 +263,14 @@ module _ (laws : RunLaws) (p : StoredProgram) (input : List (List ℕ)) (rules :
 
   -- ---- turns that ask nothing
 
-  turns_prefix : (n : ℕ) (old new : Configuration) (c : Choices) (s : List ℕ) (left : List (List ℕ))
-      → IsRunPrefix p input rules c s left old → QuietTurns p rules.limit n old new
+  pub advanced : (n : ℕ) (old new : Configuration) (c : Choices) (s : List ℕ) (left : List (List ℕ))
+      → IsRunPrefix p input rules c s left old → PlainTurns p rules.limit n old new
       → IsRunPrefix p input rules c s left new
-  turns_prefix zero old new c s left u same = subst (IsRunPrefix p input rules c s left) (sym same) u
-  turns_prefix (suc n) old new c s left u turns =
+  advanced zero old new c s left u same = subst (IsRunPrefix p input rules c s left) (sym same) u
+  advanced (suc n) old new c s left u turns =
       (step_goes turns.0 new c c s s [] left left 1 1 nothing_refused (Ok None) refl
-      (turns_prefix n old turns.0 c s left u turns.1) refl (λ none. absurd (omega (arith, none)))
+      (advanced n old turns.0 c s left u turns.1) refl (λ none. absurd (omega (arith, none)))
       (turns.2 (devices c (text_state s) 1 rules.choose []) refl)).1
-
-  -- by a player that plays q
-  pub advanced : (q : StoredProgram) (n : ℕ) (old new : Configuration) (c : Choices) (s : List ℕ) (left : List (List ℕ))
-      → q ≡ p → IsRunPrefix p input rules c s left old → QuietTurns p rules.limit n old new
-      → IsRunPrefix q input rules c s left new
-  advanced q n old new c s left same u turns = subst (λ (x : StoredProgram). IsRunPrefix x input rules c s left new)
-      (sym same) (turns_prefix n old new c s left u turns)
 
   pub step_ends : (m new : Configuration) (c d : Choices) (bound : ℤ) (s t : List ℕ) (given left rest : List (List ℕ))
       (most few : ℕ) (e : Ending) (r : Result (Option Ending) RunFault)

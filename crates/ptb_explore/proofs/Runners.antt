@@ -14,11 +14,9 @@ use Rattle.ptb_explore.specs.Copies.{AreCopies, more_played, play_limit}
 use Rattle.ptb_explore.specs.Explorations.{IsAdded, IsPlayed, IsSameGame}
 
 -- a step leaves all but the chooser and the copies
-pub stepped : (r s : Runner) (player : StoredProgram) (t u : Recorder) (c d : Copies) → player ≡ r.player
-    → r ≡ record s { chooser = t; copies = c }
-    → record r { player = player; chooser = u; copies = d } ≡ record s { chooser = u; copies = d }
-stepped r s player t u c d same h = ap (λ q. record r { player = q; chooser = u; copies = d }) same
-    ∙ ap (λ (q : Runner). record q { chooser = u; copies = d }) h
+pub stepped : (r s : Runner) (t u : Recorder) (c d : Copies) → r ≡ record s { chooser = t; copies = c }
+    → record r { chooser = u; copies = d } ≡ record s { chooser = u; copies = d }
+stepped r s t u c d h = ap (λ (q : Runner). record q { chooser = u; copies = d }) h
 
 -- so it plays the same,
 pub still_same : (n s : Runner) (x : Report) → n ≡ record s { chooser = n.chooser; report = x; copies = n.copies }

@@ -1,10 +1,10 @@
 // This file writes the reports of a sample: runs that the words of a generator draw, one after the other.
 
-ghost use Rattle.std.specs.Prelude.{◌≡◌, ℕ, ℤ, List, Option, [], length, false, IfOk, OnOk};
+ghost use Rattle.std.specs.Prelude.{◌≡◌, [], length, IfOk, OnOk};
 ghost use Rattle.ptb_explore.specs.Prelude.{answers_by, sampled_runs, generator_after, generator_of};
-ghost use Rattle.ptb_explore.specs.Prelude.{Represents, first_state, play, most_answers, FailsToWrite};
-ghost use Rattle.ptb_explore.specs.Prelude.{FailsOnlyToWrite, FailsAfterSome, FailsOnlyAfterSome, report, PlaysDrawn};
-ghost use Rattle.ptb_explore.specs.Prelude.{SampleLaws, WritesRun, WritesSample};
+ghost use Rattle.ptb_explore.specs.Prelude.{IsAtFirst, play, most_answers, FailsToWrite, FailsOnlyToWrite};
+ghost use Rattle.ptb_explore.specs.Prelude.{FailsAfterSome, FailsOnlyAfterSome, report, PlaysDrawn, SampleLaws};
+ghost use Rattle.ptb_explore.specs.Prelude.{WritesRun, WritesSample};
 
 use crate::fault::{ExploreFault, memory_refusal};
 use crate::report::word;
@@ -43,20 +43,17 @@ struct Sampler<'a> {
 
 // Plays a run of the player's program from its beginning, with the answers that the chooser draws.
 fn play_drawn(
-    player: &mut Player,
+    player: &Player,
     machine: &mut Machine,
     lines: &[Line],
     rules: Rules,
     chooser: &mut Seeded,
     screen: &mut TextScreen,
 ) -> Result<Ending, AllocError>
-    requires first { (input : List (List ℕ)) (choose : Option ℤ) →
-        Represents player.old.lines machine.old (first_state player.old input choose) }
-    requires unspent { machine.old.spent ≡ false }
+    requires first { IsAtFirst player.now machine.old }
     requires fresh { chooser.old.bounds ≡ [] }
     requires shown { screen.old ≡ [] }
-    ensures program { player.new ≡ player.old }
-    ensures drawn { IfOk result (λ ending. PlaysDrawn (play player.old lines.now rules)
+    ensures { IfOk result (λ ending. PlaysDrawn (play player.now lines.now rules)
         chooser.old.first chooser.new
         (record { ending = ending; steps = machine.new.steps; shown = screen.new })) }
 {
@@ -91,7 +88,7 @@ fn play_next(
     sampler.screen.cut(0);
     sampler.player.restart(alloc, &mut sampler.machine)?;
     play_drawn(
-        &mut sampler.player,
+        &sampler.player,
         &mut sampler.machine,
         lines,
         rules,

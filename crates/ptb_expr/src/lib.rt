@@ -20,7 +20,7 @@ mod saved_store;
 mod short_value;
 mod step;
 mod step_runner;
-mod stopped;
+mod stop_report;
 mod store;
 mod translation;
 mod values;

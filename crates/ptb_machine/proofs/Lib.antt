@@ -15,7 +15,7 @@ mod Lawful
 mod PartsSpend
 mod PlayReads
 mod ProgramQuestions
-mod QuietTurns
+mod PlainTurns
 mod Results
 mod Runs
 mod SpentAnswers

@@ -2,3 +2,4 @@
 
 pub use Rattle.ptb_machine.proofs.ProgramCodes.{next_ahead}
 pub use Rattle.ptb_machine.proofs.Playing.{takes_beginning}
+pub use Rattle.ptb_machine.proofs.RunStart.{fits_at_first}

@@ -32,7 +32,7 @@ use Rattle.ptb_command.specs.Representation.{Represents}
 use Rattle.ptb_machine.specs.PlayResults.{played_bytes, Plays, refused_by_pause, IsFinished}
 use Rattle.ptb_machine.specs.PlayResults.{IsUnanswered, IsUnfinished, LacksInput, RunComes}
 use Rattle.ptb_machine.specs.Runs.{Runs, StopsAt}
-use Rattle.ptb_machine.specs.Steps.{IsStateBefore, Steps, QuietTurns}
+use Rattle.ptb_machine.specs.Steps.{IsStateBefore, Steps, PlainTurns}
 use Rattle.ptb_machine.specs.TurnResults.{StepsTo, goes, ends, StepComes}
 use Rattle.ptb_command.proofs.PublicLemmas.{begins_joined, takes_joined, shows_then, exchanges_none}
 use Rattle.ptb_command.proofs.PublicLemmas.{exchanges_then, no_lines, has_broken_from, leaves_itself, leaves_then}
@@ -492,24 +492,16 @@ module _ (refused : Refusal → Type 0) (p : StoredProgram) (rules : Rules) (m n
   run_breaks fault fresh s rest f =
       comes_broken rest f fault fresh (s (b rest f).leads.state rest (before_step rest f (b rest f)))
 
--- ---- quiet turns
+-- ---- plain turns
 
-run_quietly : (p : StoredProgram) (rules : Rules) (n : ℕ) (old new : Configuration) (o d : Devices)
-    → o.choose ≡ rules.choose → HasRun p rules old o d → QuietTurns p rules.limit n old new → HasRun p rules new o d
-run_quietly p rules zero old new o d chosen h same = subst (λ (m : Configuration). HasRun p rules m o d) (sym same) h
-run_quietly p rules (suc n) old new o d chosen h turns =
-    let quiet = record d { given = [] } in
+pub run_advanced : (p : StoredProgram) (rules : Rules) (n : ℕ) (old new : Configuration) (o d : Devices)
+    → o.choose ≡ rules.choose → HasRun p rules old o d → PlainTurns p rules.limit n old new → HasRun p rules new o d
+run_advanced p rules zero old new o d chosen h same = subst (λ (m : Configuration). HasRun p rules m o d) (sym same) h
+run_advanced p rules (suc n) old new o d chosen h turns =
+    let plain = record d { given = [] } in
     subst (λ (given : List (List ℕ)). HasRun p rules new o (record d { given = given })) (append-nil d.given)
-    (run_on nothing_refused p rules turns.0 new o d quiet chosen (omega arith)
-    (run_quietly p rules n old turns.0 o d chosen h turns.1) (turns.2 quiet refl))
-
--- the same by a player that plays q
-pub run_advanced : (p q : StoredProgram) (rules : Rules) (n : ℕ) (old new : Configuration) (o d : Devices)
-    → o.choose ≡ rules.choose → q ≡ p → HasRun p rules old o d → QuietTurns p rules.limit n old new
-    → HasRun q rules new o d
-run_advanced p q rules n old new o d chosen program h turns =
-    subst (λ (s : StoredProgram). HasRun s rules new o d) (sym program)
-    (run_quietly p rules n old new o d chosen h turns)
+    (run_on nothing_refused p rules turns.0 new o d plain chosen (omega arith)
+    (run_advanced p rules n old turns.0 o d chosen h turns.1) (turns.2 plain refl))
 
 -- ---- at the exits of the loop
 

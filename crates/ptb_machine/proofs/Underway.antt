@@ -22,7 +22,7 @@ use Rattle.ptb_machine.specs.Play.{next_number}
 use Rattle.ptb_machine.specs.RunDevices.{RunDevices, held, refusals}
 use Rattle.ptb_machine.specs.declared.run_end.RunEnd.{RunEnd}
 use Rattle.ptb_machine.specs.Runs.{IsCompleteRun, IsRunToEnd, StopsAt}
-use Rattle.ptb_machine.specs.Steps.{IsTurn, QuietTurns, Steps, step_miss}
+use Rattle.ptb_machine.specs.Steps.{IsTurn, PlainTurns, Steps, step_miss}
 use Rattle.ptb_machine.proofs.Ends.{end_over}
 use Rattle.ptb_machine.proofs.Runs.{HasRun, run_begins, run_advanced, run_on, run_falls, run_over}
 use Rattle.ptb_machine.proofs.Runs.{run_stops, run_breaks}
@@ -48,21 +48,15 @@ module _ {C S L : Type 0} (chooser : choosers.Ghosts C) (screen : screens.Ghosts
     missed = not_missed rules.choose _ _ _ (omega arith);
   }
 
-  pub underway_advanced : (p q : StoredProgram) (n : ℕ) (old new : Configuration) (now : RunDevices C S L) → q ≡ p
-      → IsUnderway chooser screen source p rules old first now → QuietTurns p rules.limit n old new
-      → IsUnderway chooser screen source q rules new first now
-  underway_advanced p q n old new now same u turns = record {
+  pub underway_advanced : (p : StoredProgram) (n : ℕ) (old new : Configuration) (now : RunDevices C S L)
+      → IsUnderway chooser screen source p rules old first now → PlainTurns p rules.limit n old new
+      → IsUnderway chooser screen source p rules new first now
+  underway_advanced p n old new now u turns = record {
     given = u.given;
     gives = u.gives;
-    run = run_advanced p q rules n old new _ _ refl same u.run turns;
+    run = run_advanced p rules n old new _ _ refl u.run turns;
     missed = u.missed;
   }
-
-  -- a player that plays q plays p
-  pub underway_as : (p q : StoredProgram) (m : Configuration) (now : RunDevices C S L) → p ≡ q
-      → IsUnderway chooser screen source p rules m first now → IsUnderway chooser screen source q rules m first now
-  underway_as p q m now same u =
-      subst (λ (x : StoredProgram). IsUnderway chooser screen source x rules m first now) same u
 
   -- a step from the machine m to n, after which the devices are `last`
   module _ (p : StoredProgram) (m n : Configuration) (now last : RunDevices C S L)
@@ -150,11 +144,3 @@ module _ {C S L : Type 0} (chooser : choosers.Ghosts C) (screen : screens.Ghosts
               underway_stops end.line (limit at) (e ∙ ap (λ (x : Ending). Ok (Some x)) at);
           elsewhere = λ h. other (λ k. h (same ∙ k));
         })
-
--- what a player of a program runs
-pub ended_as : {C S L : Type 0} (chooser : choosers.Ghosts C) (screen : screens.Ghosts S) (source : sources.Ghosts L)
-    (rules : Rules) (p q : StoredProgram) (first last : RunDevices C S L) (r : Result RunEnd RunFault)
-    → q ≡ p → IsRunToEnd chooser screen source q rules first last r
-    → IsRunToEnd chooser screen source p rules first last r
-ended_as chooser screen source rules p q first last r same run =
-    subst (λ (x : StoredProgram). IsRunToEnd chooser screen source x rules first last r) same run

@@ -25,6 +25,7 @@ pub use Rattle.ptb_command.specs.declared.ending.Ending.TheVariants.{Limit}
 pub use Rattle.ptb_code.specs.declared.operation.Operation.{Operation}
 pub use Rattle.ptb_command.specs.declared.registers.Registers.{Registers}
 pub use Rattle.ptb_code.specs.declared.stack.Open.{Open}
+pub use Rattle.ptb_machine.specs.Beginnings.{IsAtFirst}
 pub use Rattle.ptb_machine.specs.CommandResults.{IsCodeOfNext, IsPerformed, MayPerform}
 pub use Rattle.ptb_machine.specs.Entries.{after_entry, IsNextAt, BeginsAt, EndsStatement, LeadsTo, Follows, place_of}
 pub use Rattle.ptb_machine.specs.Jumps.{Jumps}
@@ -38,9 +39,9 @@ pub use Rattle.ptb_machine.specs.RunDevices.{lent, run_devices}
 pub use Rattle.ptb_machine.specs.Runs.{IsCompleteRun, IsRunToEnd, ending_alone}
 pub use Rattle.ptb_machine.specs.SeededRuns.{IsDrawn, SeededLaws}
 pub use Rattle.ptb_machine.specs.ShortForms.{beginning, place_by, IsSet, IsSetElement, IsIf, IsLastIf, IsGosub}
-pub use Rattle.ptb_machine.specs.ShortForms.{IsReturn, IsEndTurn, IsShort, IsShortForm, LeadsToStatement, with_form}
-pub use Rattle.ptb_machine.specs.ShortForms.{viewed}
+pub use Rattle.ptb_machine.specs.ShortForms.{IsReturn, IsEndTurn, HasShortForm, IsShortForm, LeadsToStatement}
+pub use Rattle.ptb_machine.specs.ShortForms.{viewed, with_form}
 pub use Rattle.ptb_machine.specs.ShortSteps.{DoesEntry, MovesOn, Arrives}
-pub use Rattle.ptb_machine.specs.Steps.{FitsProgram, IsStep, QuietTurns}
+pub use Rattle.ptb_machine.specs.Steps.{FitsProgram, IsStep, PlainTurns}
 pub use Rattle.ptb_machine.specs.Streams.{reads_of, writes_of}
 pub use Rattle.ptb_machine.specs.declared.program_code.CommandEntry.{CommandEntry}

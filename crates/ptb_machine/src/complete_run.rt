@@ -1,8 +1,7 @@
 // This file does complete runs, by `run` and `run_to_end`.
 
-ghost use Rattle.std.specs.Prelude.{◌≡◌, ℕ, ℤ, List, Option, false, IfOk};
-ghost use Rattle.ptb_machine.specs.Prelude.{Represents, first_state, run_devices, IsCompleteRun, IsRunToEnd};
-ghost use Rattle.ptb_machine.specs.Prelude.{FitsProgram, SameBorrows, lent};
+ghost use Rattle.std.specs.Prelude.{◌≡◌, IfOk};
+ghost use Rattle.ptb_machine.specs.Prelude.{run_devices, IsAtFirst, IsCompleteRun, IsRunToEnd, SameBorrows, lent};
 
 use crate::fault::RunFault;
 use crate::machine::Machine;
@@ -55,19 +54,16 @@ pub fn run_to_end<C: Chooser, S: Screen, L: LineSource>(
         (run_devices chooser.old screen.old source.old)
         (run_devices chooser.new screen.new source.new) result }
 {
-    let (mut player, mut machine) = begun(alloc, program)?;
+    let (player, mut machine) = begun(alloc, program)?;
     let mut io = CommandIo::new(chooser, screen, source, true, rules);
-    play(&mut player, &mut machine, &mut io)
+    play(&player, &mut machine, &mut io)
 }
 
 // A player of a program, and a machine at the beginning of its run. `run` owns them and lends them to `play`, which
 // has the loop: each exit of a body is proved with all that the body owns.
 fn begun(alloc: Global, program: &Program) -> Result<(Player<'_>, Machine), AllocError>
     ensures player { IfOk result (λ b. b.0 ≡ program.now) }
-    ensures first { IfOk result (λ b. (input : List (List ℕ)) (choose : Option ℤ) →
-        Represents b.0.lines b.1 (first_state b.0 input choose)) }
-    ensures fits { IfOk result (λ b. FitsProgram b.0 b.1) }
-    ensures unspent { IfOk result (λ b. b.1.spent ≡ false) }
+    ensures first { IfOk result (λ b. IsAtFirst b.0 b.1) }
 {
     let player = Player::new(alloc, program)?;
     let machine = player.machine(alloc)?;
@@ -76,15 +72,12 @@ fn begun(alloc: Global, program: &Program) -> Result<(Player<'_>, Machine), Allo
 
 // Plays a machine, which is at the beginning of a run of the player's program, to the ending.
 fn play<C: Chooser, S: Screen, L: LineSource>(
-    player: &mut Player<'_>,
+    player: &Player<'_>,
     machine: &mut Machine,
     io: &mut CommandIo<'_, C, S, L>,
 ) -> Result<RunEnd, RunFault>
-    requires first { (input : List (List ℕ)) (choose : Option ℤ) →
-        Represents player.old.lines machine.old (first_state player.old input choose) }
-    requires fits { FitsProgram player.old machine.old }
-    requires unspent { machine.old.spent ≡ false }
-    ensures run { IsRunToEnd C.Chooser S.Screen L.LineSource player.old io.old.rules
+    requires { IsAtFirst player.now machine.old }
+    ensures run { IsRunToEnd C.Chooser S.Screen L.LineSource player.now io.old.rules
         (lent io.old) (lent io.new) result }
     ensures same { SameBorrows io.old io.new }
 {

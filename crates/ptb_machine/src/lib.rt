@@ -1,42 +1,36 @@
-//! The machine of Tiny BASIC. All commands of a program are read once into its code
+//! The machine of Tiny BASIC. The code of a program is made before it is run
 //! (`program_translation.rt`). A step is one command, done by this code; a run is all steps, and a
-//! program that is played once is a run over a reader and a writer. Commands that ask nothing are
-//! done one after the other by their short forms (`advance.rt`).
+//! program that is played once is a run over a reader and a writer. Commands that have short forms
+//! are done one after the other by them (`short_forms/advance.rt`).
 //!
 //! It depends on `ptb_command`, `ptb_code`, `ptb_devices`, `ptb_expr`, `ptb_answers`, `ptb_text`,
 //! `itoa`, `thiserror` and `rand_pcg`. The crate above may rely on `Machine::step` (one
 //! turn of `specs/Play`: the state after it, what it shows, the lines and answers it takes), on
-//! `Player::step` (the same by the code of the program, without its text), on `Player::advance`
-//! (some turns that touch no device), on `run` (all turns), on `run_to_end` (the same, and the line
-//! at which a limit stopped it), on `run_plain` and `run_seeded` (a run with a list of answers, or
-//! with those of a seed: its bytes and its ending, what is read of its input, and which fault it
-//! was), on `run_plain_to_end` and `run_seeded_to_end` (the same, and the line at which a limit
-//! stopped the run), on `seeded_laws` (what a seed draws), on `SavedMachine` (where a machine is,
-//! in little memory, to which it can be restored), on `run_laws` (answers are taken one by one, a
-//! limited number of them), and on what it re-exports of the crates below.
+//! `Player::step` (the same by the code of the program; it reads the text of a command only if the
+//! command has no code), on `Player::advance` (some turns that touch no device), on `run` (all
+//! turns), on `run_to_end` (the same, and the line at which a limit stopped it), on `run_plain` and
+//! `run_seeded` (a run with a list of answers, or with those of a seed: its bytes and its ending,
+//! what is read of its input, and which fault it was), on `run_plain_to_end` and
+//! `run_seeded_to_end` (the same, and the line at which a limit stopped the run), on `seeded_laws`
+//! (what a seed draws), on `SavedMachine` (where a machine is, in little memory, to which it can be
+//! restored), on `run_laws` (answers are taken one by one, a limited number of them), and on what it
+//! re-exports of the crates below.
 #![tactic(auto)]
 
-mod advance;
-mod command_view;
 mod complete_run;
 mod fault;
-mod known_loop;
 mod laws;
 mod machine;
-mod memory_noted;
+mod memory_note;
 mod plain_run;
 mod player;
-mod position;
 mod program_code;
 mod program_translation;
 mod reports;
 mod run_end;
 mod saved_machine;
-mod short_command;
-mod short_commands;
 mod short_forms;
 mod stop_result;
-mod value_forms;
 
 pub use complete_run::{run, run_to_end};
 pub use fault::RunFault;
@@ -50,9 +44,9 @@ pub use ptb_code::{
     CommandCode, Destination, Expression, Operation, command_laws, line_at, start_of, translate,
 };
 pub use ptb_command::{Ending, fault_line};
-pub use ptb_devices::{
-    Line, LineSource, Lines, ReaderLines, Screen, TextScreen, WriterScreen, read_lines,
-};
+pub use ptb_devices::{Line, Lines, ReaderLines, TextScreen, WriterScreen, read_lines};
+// No crate of the program imports these two: they are for users of the library who have devices of their own.
+pub use ptb_devices::{LineSource, Screen};
 pub use reports::report;
 pub use run_end::RunEnd;
 pub use saved_machine::SavedMachine;

@@ -8,7 +8,7 @@ ghost use Rattle.ptb_machine.specs.Prelude.{IsDrawn, SeededLaws, reads_of, write
 use crate::complete_run::run_to_end;
 use crate::fault::RunFault;
 use crate::laws::{run_laws, seeded_laws};
-use crate::memory_noted::MemoryNoted;
+use crate::memory_note::MemoryNote;
 use crate::run_end::RunEnd;
 use ptb_answers::{Chooser, Listed, Pause, Rules, Seeded};
 use ptb_command::Ending;
@@ -74,7 +74,7 @@ pub fn run_plain_to_end<R: Read, W: Write>(
     ensures line { IfOk result (HasLine program.now rules (λ _. answers.now)
         (reads_of R.remaining R.given R.failures input.old input.new)) }
 {
-    let mut chooser = MemoryNoted::new(Listed::new(answers));
+    let mut chooser = MemoryNote::new(Listed::new(answers));
     run_on_input(alloc, program, rules, &mut chooser, input, out)
 }
 
@@ -153,7 +153,7 @@ pub fn run_seeded_to_end<R: Read, W: Write>(
 {
     run_laws();
     seeded_laws();
-    let mut chooser = MemoryNoted::new(Seeded::new(alloc, seed));
+    let mut chooser = MemoryNote::new(Seeded::new(alloc, seed));
     run_on_input(alloc, program, rules, &mut chooser, input, out)
 }
 
@@ -162,7 +162,7 @@ fn run_on_input<C: Chooser, R: Read, W: Write>(
     alloc: Global,
     program: &Program,
     rules: Rules,
-    chooser: &mut MemoryNoted<C>,
+    chooser: &mut MemoryNote<C>,
     input: &mut R,
     out: &mut W,
 ) -> Result<RunEnd, RunFault>

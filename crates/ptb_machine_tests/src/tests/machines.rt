@@ -12,6 +12,13 @@ use ptb_text::Program;
 use std::alloc::Global;
 use std::process::Abort;
 
+// A machine at the beginning of a run of a program.
+fn begun(rt: &impl Abort, alloc: Global, program: &Program) -> Machine
+    ensures { FitsProgram program.now result }
+{
+    Machine::new(alloc, program).expect(rt, "memory")
+}
+
 // A step without answers and input.
 fn step_of(
     machine: &mut Machine,
@@ -51,7 +58,7 @@ fn expect_steps(
 // A machine of a text after these steps.
 fn machine_after(rt: &impl Abort, alloc: Global, (text, rows): (&str, &[Step])) -> Machine {
     let program = loaded(rt, alloc, text.as_bytes());
-    let mut machine = Machine::new(alloc, &program).expect(rt, "memory");
+    let mut machine = begun(rt, alloc, &program);
     let mut screen = TextScreen::new(alloc);
     expect_eq(rt, text, machine.steps(), 0);
     expect_steps(rt, &mut machine, &program, &mut screen, rows);
@@ -104,7 +111,7 @@ fn expect_taken_over(
 
 // A machine and its copy do so.
 fn expect_copies(rt: &impl Abort, alloc: Global, program: &Program) {
-    let mut machine = Machine::new(alloc, program).expect(rt, "memory");
+    let mut machine = begun(rt, alloc, program);
     let mut copy = machine.copy(alloc).expect(rt, "memory");
     let mut screen = TextScreen::new(alloc);
     expect_taken_over(rt, alloc, program, &mut machine, &mut copy, &mut screen)
@@ -220,7 +227,7 @@ fn expect_print(rt: &impl Abort, alloc: Global, counts: &Program, prints: &Progr
     requires counts { IsCounting counts.now }
     requires prints { IsPrinting prints.now }
 {
-    let mut machine = Machine::new(alloc, counts).expect(rt, "memory");
+    let mut machine = begun(rt, alloc, counts);
     let mut screen = TextScreen::new(alloc);
     expect_steps(rt, &mut machine, counts, &mut screen, EIGHT);
     fits_prints(&machine, counts, prints);

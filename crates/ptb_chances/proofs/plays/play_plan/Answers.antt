@@ -15,21 +15,19 @@ use Rattle.ptb_chances.proofs.plays.play_plan.Goals.{After-advance}
 
 -- what came before still holds after the machine advanced
 advances : (c : After-advance) (S : State)
-    → Came c.commands.player c.args.rules S (plan_choices c.commands.plan).taken c.commands.machine
+    → Came c.args.player.now c.args.rules S (plan_choices c.commands.plan).taken c.commands.machine
     (drop c.commands.devices.source.taken c.commands.devices.source.lines) c.commands.devices.screen
-    → Came c.advance.new.self c.args.rules S (plan_choices c.commands.plan).taken c.advance.new.machine
+    → Came c.args.player.now c.args.rules S (plan_choices c.commands.plan).taken c.advance.new.machine
     (drop c.commands.devices.source.taken c.commands.devices.source.lines) c.commands.devices.screen
 advances c S came =
     let turns = c.advance.ensures.turns in
-    advanced c.run_laws.ensures c.commands.player c.args.rules c.advance.new.self turns.0 S c.commands.machine
-    c.advance.new.machine (plan_choices c.commands.plan).taken c.commands.devices.screen _ c.advance.ensures.program
-    came turns.1.1
+    advanced c.run_laws.ensures c.args.player.now c.args.rules turns.0 S c.commands.machine c.advance.new.machine
+    (plan_choices c.commands.plan).taken c.commands.devices.screen _ came turns.1.1
 
 pub commands-init : goal.commands-init
 commands-init c =
     let given : c.new-plan.result.given ≡ 0 = ap (λ (l : PlanAnswers). l.given) c.new-plan.ensures in
     record {
-      program = refl;
       answers = ap (λ (l : PlanAnswers). l.answers) c.new-plan.ensures;
       same_lines = refl;
       within = c.requires.within;
@@ -43,26 +41,24 @@ commands-preserved c =
     let l = c.commands in
     let i = l.invariant in
     let is : c.step.result ≡ Ok None = c.in-Ok-None.is ∙ ap Ok c.in-Ok-None.field-0-is in
-    let turn = c.step.ensures.step.turn in
+    let turn = c.step.ensures.turn in
     let turns = c.advance.ensures.turns in
     let o = c.requires.opens in
     let u = advances (goal.at.commands-preserved c).After-advance o.0 (i.came o.0 o.1) in
     record {
-      program = c.step.ensures.program ∙ (c.advance.ensures.program ∙ i.program);
-      answers = step_plan c.run_laws.ensures c.advance.new.self c.args.rules o.0 _ _
+      answers = step_plan c.run_laws.ensures c.args.player.now c.args.rules o.0 _ _
           (plan_choices l.plan) c.step.new.chooser _ _ turn.given _ _ _ _ _ u turn.gives.first
           (none_follow c.step.new.source) turn.steps None is ∙ i.answers;
       same_lines = turn.gives.same_lines ∙ i.same_lines;
       within = rw (← i.same_lines) (taken_within l.devices.source c.step.new.source turn.given turn.gives
           (rw i.same_lines i.within));
-      unspent = c.step.ensures.step.spends.0 is;
-      steps = omega (arith, i.steps, turns.1.0, (c.step.ensures.step.begun is).1);
+      unspent = c.step.ensures.spends.0 is;
+      steps = omega (arith, i.steps, turns.1.0, (c.step.ensures.begun is).1);
       came = λ S h.
           let v = advances (goal.at.commands-preserved c).After-advance S (i.came S h) in
-          came_by c.advance.new.self c.step.new.self c.args.rules S _ _ _ _ _ _ (sym c.step.ensures.program) refl refl
-          (step_came c.run_laws.ensures c.advance.new.self c.args.rules S _ _ (plan_choices l.plan)
+          step_came c.run_laws.ensures c.args.player.now c.args.rules S _ _ (plan_choices l.plan)
           (plan_choices c.step.new.chooser) _ _ turn.given _ _ _ _ _ _ is v turn.gives.first
-          (none_follow c.step.new.source) turn.steps);
+          (none_follow c.step.new.source) turn.steps;
     }
 
 pub ended-requires : goal.ended-requires
@@ -71,15 +67,15 @@ ended-requires c = λ bad.
     let i = l.invariant in
     let is : c.step.result ≡ Ok (Some c.in-Ok-Some.ending) =
     c.in-Ok-Some.is ∙ ap Ok (c.in-Ok-Some.field-0-is ∙ ap Some c.in-Ok-Some.ending-is) in
-    let turn = c.step.ensures.step.turn in
+    let turn = c.step.ensures.turn in
     let o = c.requires.opens in
     let u = advances (goal.at.ended-requires c).After-advance o.0 (i.came o.0 o.1) in
-    let plan = step_plan c.run_laws.ensures c.advance.new.self c.args.rules o.0 _ _
+    let plan = step_plan c.run_laws.ensures c.args.player.now c.args.rules o.0 _ _
     (plan_choices l.plan) c.step.new.chooser _ _ turn.given _ _ _ _ _ u turn.gives.first
     (none_follow c.step.new.source) turn.steps (Some c.in-Ok-Some.ending) is in
-    let opens : is_open (run_from c.advance.new.self c.args.rules o.0 c.step.new.chooser.answers) ≡ true =
-    rw (c.advance.ensures.program ∙ i.program, plan ∙ i.answers) o.2 in
-    never_out c.run_laws.ensures c.advance.new.self c.args.rules o.0 _ _ (plan_choices l.plan) c.step.new.chooser
+    let opens : is_open (run_from c.args.player.now c.args.rules o.0 c.step.new.chooser.answers) ≡ true =
+    rw (plan ∙ i.answers) o.2 in
+    never_out c.run_laws.ensures c.args.player.now c.args.rules o.0 _ _ (plan_choices l.plan) c.step.new.chooser
     _ _ turn.given _ _ _ _ _ u turn.gives.first (none_follow c.step.new.source) turn.steps opens
     (is ∙ ap (λ e. Ok (Some e)) bad)
 
@@ -91,22 +87,21 @@ returns-in-Ok-Some-clause-plays c = (
       let i = l.invariant in
       let is : c.step.result ≡ Ok (Some c.in-Ok-Some.ending) =
       c.in-Ok-Some.is ∙ ap Ok (c.in-Ok-Some.field-0-is ∙ ap Some c.in-Ok-Some.ending-is) in
-      let turn = c.step.ensures.step.turn in
+      let turn = c.step.ensures.turn in
       let v = advances (goal.at.returns-in-Ok-Some-clause-plays c).After-advance S (i.came S h) in
-      let plan = step_plan c.run_laws.ensures c.advance.new.self c.args.rules S _ _
+      let plan = step_plan c.run_laws.ensures c.args.player.now c.args.rules S _ _
       (plan_choices l.plan) c.step.new.chooser _ _ turn.given _ _ _ _ _ v turn.gives.first
       (none_follow c.step.new.source) turn.steps (Some c.in-Ok-Some.ending) is in
       let o = c.requires.opens in
       let u = advances (goal.at.returns-in-Ok-Some-clause-plays c).After-advance o.0 (i.came o.0 o.1) in
-      let opens : is_open (run_from c.advance.new.self c.args.rules o.0 c.step.new.chooser.answers) ≡ true =
-      rw (c.advance.ensures.program ∙ i.program, plan ∙ i.answers) o.2 in
+      let opens : is_open (run_from c.args.player.now c.args.rules o.0 c.step.new.chooser.answers) ≡ true =
+      rw (plan ∙ i.answers) o.2 in
       let fits : FitsSigned w16 c.step.new.chooser.refused_bound = search rules in
-      let x = step_plays c.run_laws.ensures c.advance.new.self c.args.rules S _ _ (plan_choices l.plan)
+      let x = step_plays c.run_laws.ensures c.args.player.now c.args.rules S _ _ (plan_choices l.plan)
       c.step.new.chooser
       _ _ turn.given _ _ _ _ _ v turn.gives.first (none_follow c.step.new.source) turn.steps
-      c.in-Ok-Some.ending c.args.player.now c.args.answers.now _ (c.advance.ensures.program ∙ i.program)
-      (plan ∙ i.answers)
-      (λ bad. never_out c.run_laws.ensures c.advance.new.self c.args.rules o.0 _ _
+      c.in-Ok-Some.ending c.args.answers.now _ (plan ∙ i.answers)
+      (λ bad. never_out c.run_laws.ensures c.args.player.now c.args.rules o.0 _ _
       (plan_choices l.plan) c.step.new.chooser _ _ turn.given _ _ _ _ _ u turn.gives.first
       (none_follow c.step.new.source) turn.steps opens (is ∙ ap (λ e. Ok (Some e)) bad))
       is (rw (to_z-of_z fits) at (rw c.refused_bound.ensures at c.ended.ensures)) in
@@ -116,14 +111,14 @@ returns-in-Ok-Some-clause-plays c = (
 pub returns-in-Ok-Some-clause-within : goal.returns-in-Ok-Some-clause-within
 returns-in-Ok-Some-clause-within c =
     let i = c.commands.invariant in
-    let turn = c.step.ensures.step.turn in
+    let turn = c.step.ensures.turn in
     rw (← i.same_lines) (taken_within c.commands.devices.source c.step.new.source turn.given turn.gives
     (rw i.same_lines i.within))
 
 pub returns-then-is_used_up-clause-within : goal.returns-then-is_used_up-clause-within
 returns-then-is_used_up-clause-within c =
     let i = c.commands.invariant in
-    let turn = c.step.ensures.step.turn in
+    let turn = c.step.ensures.turn in
     rw (← i.same_lines) (taken_within c.commands.devices.source c.step.new.source turn.given turn.gives
     (rw i.same_lines i.within))
 
@@ -134,34 +129,34 @@ returns-then-is_used_up-clause-plays c = (
       let l = c.commands in
       let i = l.invariant in
       let is : c.step.result ≡ Ok None = c.in-Ok-None.is ∙ ap Ok c.in-Ok-None.field-0-is in
-      let turn = c.step.ensures.step.turn in
+      let turn = c.step.ensures.turn in
       let v = advances (goal.at.returns-then-is_used_up-clause-plays c).After-advance S (i.came S h) in
-      let plan = step_plan c.run_laws.ensures c.advance.new.self c.args.rules S _ _ (plan_choices l.plan)
+      let plan = step_plan c.run_laws.ensures c.args.player.now c.args.rules S _ _ (plan_choices l.plan)
       c.step.new.chooser _ _ turn.given _ _ _ _ _ v turn.gives.first (none_follow c.step.new.source) turn.steps None
       is in
       let given : c.step.new.chooser.given ≡ length c.step.new.chooser.answers = search rules in
-      came_by c.advance.new.self c.args.player.now c.args.rules S _ _ _ _ _ _ (c.advance.ensures.program ∙ i.program)
+      came_by c.args.player.now c.args.rules S _ _ _ _ _ _
       (ap (λ n. take n c.step.new.chooser.answers) given ∙ whole c.step.new.chooser.answers ∙ plan ∙ i.answers)
       (ap (drop c.step.new.source.taken) (turn.gives.same_lines ∙ i.same_lines))
-      (step_came c.run_laws.ensures c.advance.new.self c.args.rules S _ _ (plan_choices l.plan)
+      (step_came c.run_laws.ensures c.args.player.now c.args.rules S _ _ (plan_choices l.plan)
       (plan_choices c.step.new.chooser) _ _ turn.given _ _ _ _ _ _ is v turn.gives.first
       (none_follow c.step.new.source) turn.steps),
 )
 
 pub unreachable-requires : goal.unreachable-requires
 unreachable-requires c =
-    let turn = c.step.ensures.step.turn in
+    let turn = c.step.ensures.turn in
     let u = advances (goal.at.unreachable-requires c).After-advance c.requires.opens.0
     (c.commands.invariant.came c.requires.opens.0 c.requires.opens.1) in
-    never_unread c.run_laws.ensures c.advance.new.self c.args.rules c.requires.opens.0 _ _
+    never_unread c.run_laws.ensures c.args.player.now c.args.rules c.requires.opens.0 _ _
     (plan_choices c.commands.plan) c.step.new.chooser _ _ turn.given _ _ _ _ _ u turn.gives.first
     (none_follow c.step.new.source) turn.steps (c.in-Err-Read.is ∙ ap Err c.in-Err-Read.field-0-is)
 
 pub unreachable-requires-in-Err-Write : goal.unreachable-requires-in-Err-Write
 unreachable-requires-in-Err-Write c =
-    let turn = c.step.ensures.step.turn in
+    let turn = c.step.ensures.turn in
     let u = advances (goal.at.unreachable-requires-in-Err-Write c).After-advance c.requires.opens.0
     (c.commands.invariant.came c.requires.opens.0 c.requires.opens.1) in
-    never_unwritten c.run_laws.ensures c.advance.new.self c.args.rules c.requires.opens.0 _ _
+    never_unwritten c.run_laws.ensures c.args.player.now c.args.rules c.requires.opens.0 _ _
     (plan_choices c.commands.plan) c.step.new.chooser _ _ turn.given _ _ _ _ _ u turn.gives.first
     (none_follow c.step.new.source) turn.steps (c.in-Err-Write.is ∙ ap Err c.in-Err-Write.field-0-is)

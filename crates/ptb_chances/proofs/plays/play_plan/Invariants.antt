@@ -7,7 +7,6 @@ use Rattle.ptb_chances.proofs.plays.play_plan.Given as goal
 
 abbrev pub invariant-commands : goal.invariant-commands
 invariant-commands l = record {
-  program : l.player ≡ l.fn.player;
   answers : l.plan.answers ≡ l.fn.answers;
   same_lines : l.devices.source.lines ≡ l.fn.devices.source.lines;
   within : l.devices.source.taken ≤ length l.fn.devices.source.lines;
@@ -16,7 +15,7 @@ invariant-commands l = record {
   came : (S : State)
       → IsStageAt l.fn.player l.rules l.fn.machine (drop l.fn.devices.source.taken l.fn.devices.source.lines)
       l.fn.devices.screen S
-      → Came l.player l.rules S (take l.plan.given l.plan.answers) l.machine
+      → Came l.fn.player l.rules S (take l.plan.given l.plan.answers) l.machine
       (drop l.devices.source.taken l.devices.source.lines) l.devices.screen;
 }
 

@@ -7,12 +7,11 @@ use Rattle.ptb_explore.proofs.sampler.play_drawn.Given as goal
 
 abbrev pub invariant-steps : goal.invariant-steps
 invariant-steps l = record {
-  program : l.player ≡ l.fn.player;
   plan : (seeded_choices l.chooser).plan ≡ (seeded_choices l.fn.chooser).plan;
   same_lines : l.source.lines ≡ l.fn.lines;
   unspent : l.machine.spent ≡ false;
-  fits : FitsProgram l.player l.machine;
-  run_prefix : IsRunPrefix l.player l.fn.lines l.rules (seeded_choices l.chooser) l.screen
+  fits : FitsProgram l.fn.player l.machine;
+  run_prefix : IsRunPrefix l.fn.player l.fn.lines l.rules (seeded_choices l.chooser) l.screen
       (drop l.source.taken l.source.lines) l.machine;
 }
 

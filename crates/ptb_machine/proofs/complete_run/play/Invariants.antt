@@ -8,8 +8,8 @@ use Rattle.ptb_machine.proofs.complete_run.play.Given as goal
 
 abbrev pub invariant-steps : goal.invariant-steps
 invariant-steps g l =
-    (l.player ≡ l.fn.player) × FitsProgram l.player l.machine × (l.machine.spent ≡ false)
-    × IsUnderway g.C.Chooser g.S.Screen g.L.LineSource l.player l.fn.io.rules l.machine
+    FitsProgram l.fn.player l.machine × (l.machine.spent ≡ false)
+    × IsUnderway g.C.Chooser g.S.Screen g.L.LineSource l.fn.player l.fn.io.rules l.machine
     (lent l.fn.io) (lent l.io) × SameBorrows l.fn.io l.io
 
 abbrev pub decreases-steps : goal.decreases-steps

@@ -66,7 +66,7 @@ commands-preserved c =
     let plays = (rw c.in-Goes.is at c.in_ok-ending.ensures.plays).1 in
     let goes = c.in_ok-ending.ensures.goes c.in-Goes.is in
     record {
-      player = c.play_plan.ensures.program ∙ a.program;
+      player = a.program;
       rules = a.by;
       same_lines = c.play_plan.ensures.same_lines ∙ same_lines;
       within = rw same_lines at c.in_ok-ending.ensures.within;

@@ -2,4 +2,4 @@
 use Rattle.ptb_chances.proofs.worklist.Place.first.Goals as goal
 
 pub returns-clause-machine : goal.returns-clause-machine
-returns-clause-machine c = rw c.in_ok-save.ensures (c.in_ok-machine.ensures.unspent, c.in_ok-machine.ensures.first)
+returns-clause-machine c = rw c.in_ok-save.ensures c.in_ok-machine.ensures

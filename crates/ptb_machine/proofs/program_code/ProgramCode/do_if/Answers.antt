@@ -5,7 +5,7 @@ use Rattle.ptb_expr.specs.declared.short_value.ShortValue.TheVariants as values
 use Rattle.ptb_answers.specs.Outcome.{success}
 use Rattle.ptb_expr.specs.Short.{IsShortOf}
 use Rattle.ptb_expr.specs.TreeSteps.{run}
-use Rattle.ptb_machine.specs.declared.short_command.ShortCommand.TheVariants as commands
+use Rattle.ptb_machine.specs.declared.short_forms.short_command.ShortCommand.TheVariants as commands
 use Rattle.ptb_code.specs.Code.{steps_at}
 use Rattle.ptb_machine.specs.ProgramCode.{code_from}
 use Rattle.ptb_machine.specs.ShortForms.{place_by}
