@@ -13,16 +13,21 @@ use Rattle.ptb_explore.proofs.Runners.{reported}
 use Rattle.ptb_explore.proofs.PlayedRecorders.{fresh_plan}
 use Rattle.ptb_explore.proofs.runner.Runner.play_from_start.Goals as goal
 
-pub play_on-requires-clause-run_prefix : goal.play_on-requires-clause-run_prefix
-play_on-requires-clause-run_prefix c =
-    let chooser = c.args.self.now.chooser in
-    let input = c.args.self.now.lines.now in
-    let taken : (recorder_choices chooser).taken ≡ [] =
-    ap (λ (bs : List ℤ). take (length bs) (recorded chooser)) (fresh_bounds chooser c.requires.fresh) in
-    let kept : (recorder_choices chooser).kept ≡ Some [] = ap Some (fresh_bounds chooser c.requires.fresh) in
-    rw (c.new-source.ensures, c.new-screen.ensures)
-    (run_prefix_at_first c.args.self.now.player input c.args.self.now.rules (recorder_choices chooser)
-    c.in_ok-machine.machine taken kept (c.in_ok-machine.ensures.represents input c.args.self.now.rules.choose))
+pub play_on-requires : goal.play_on-requires
+play_on-requires c =
+    let old = c.args.self.now in
+    let input = old.lines.now in
+    let choices = recorder_choices old.chooser in
+    let taken : choices.taken ≡ [] =
+    ap (λ (bs : List ℤ). take (length bs) (recorded old.chooser)) (fresh_bounds old.chooser c.requires.fresh) in
+    let kept : choices.kept ≡ Some [] = ap Some (fresh_bounds old.chooser c.requires.fresh) in
+    record {
+      unspent = c.in_ok-machine.ensures.unspent;
+      within = omega (arith, ap (λ (s : LineList). s.taken) c.new-source.ensures);
+      run_prefix = rw (c.new-source.ensures, c.new-screen.ensures) (run_prefix_at_first old.player input old.rules choices
+          c.in_ok-machine.machine taken kept (c.in_ok-machine.ensures.represents input old.rules.choose));
+      copies = kept_none old.player _ old.rules choices.taken _ old.copies.kept.items c.requires.none;
+    }
 
 pub returns-clause-plan : goal.returns-clause-plan
 returns-clause-plan c = c.in_ok-ending.ensures.plan ∙ fresh_plan c.args.self.now.chooser c.requires.fresh
