@@ -1,23 +1,13 @@
 // This file finds the mistake of a command by its code.
 
 ghost use Rattle.std.specs.Prelude.{◌≡◌, ℕ, List};
-ghost use Rattle.ptb_check.specs.Prelude.{steps_at, command_at, IsTranslated, first_fail, only_number, code_mistake};
+ghost use Rattle.ptb_check.specs.Prelude.{command_at, IsTranslated, first_fail, only_number, code_mistake};
 ghost use Rattle.ptb_check.specs.Prelude.{destination_fail, part_fail, command_mistake, jump_mistake};
 
 use crate::laws::code_mistake_laws;
 use ptb_expr::{Fault, FaultKind, Step};
-use ptb_machine::{CommandCode, Destination, Expression, Operation, start_of};
+use ptb_machine::{CommandCode, Destination, Operation, start_of};
 use ptb_text::Program;
-
-// The steps of an expression.
-fn steps_of(steps: &[Step], expression: Expression) -> &[Step]
-    ensures { result.now ≡ steps_at steps.now expression }
-{
-    let count = steps.len();
-    let from = usize::from(expression.from).min(count);
-    let to = (usize::from(expression.from) + usize::from(expression.count)).min(count);
-    &steps[from..to]
-}
 
 // The fault of the first step that always has one.
 fn first_fail(steps: &[Step]) -> Option<Fault>
@@ -65,8 +55,8 @@ fn destination_fail(steps: &[Step], destination: Destination) -> Option<Fault>
 {
     match destination {
         Destination::Letter(_) => None,
-        Destination::Element(index, _) => first_fail(steps_of(steps, index)),
-        Destination::Missing(fault) => first_fail(steps_of(steps, fault)),
+        Destination::Element(index, _) => first_fail(index.steps_in(steps)),
+        Destination::Missing(fault) => first_fail(fault.steps_in(steps)),
     }
 }
 
@@ -77,10 +67,10 @@ fn part_fail(steps: &[Step], operation: Operation) -> Option<Fault>
     match operation {
         Operation::Set(destination, value) => match destination_fail(steps, destination) {
             Some(fault) => Some(fault),
-            None => first_fail(steps_of(steps, value)),
+            None => first_fail(value.steps_in(steps)),
         },
         Operation::Show(value) | Operation::Width(value, _) | Operation::Discard(value) => {
-            first_fail(steps_of(steps, value))
+            first_fail(value.steps_in(steps))
         }
         Operation::Input(_, destination) => destination_fail(steps, destination),
         _ => None,
@@ -109,7 +99,7 @@ fn code_mistake(program: &Program, steps: &[Step], operations: &[Operation]) -> 
                 mark: usize::from(mark),
             }),
             Operation::Goto { number, end } | Operation::Gosub { number, end, .. } => {
-                return jump_mistake(program, only_number(steps_of(steps, number)), end);
+                return jump_mistake(program, only_number(number.steps_in(steps)), end);
             }
             Operation::Done { .. }
             | Operation::If { .. }

@@ -1,6 +1,6 @@
 // This file finds the command that is next in the text of a program.
 
-ghost use Rattle.std.specs.Prelude.{◌≡◌, ◌≤◌, length, Option, None, IfSome, MatchOption};
+ghost use Rattle.std.specs.Prelude.{◌≡◌, Option, None, MatchOption};
 ghost use Rattle.ptb_code.specs.Locations.{PlacesAre, IsPlaceOf, NextIs};
 ghost use Rattle.ptb_code.specs.State.{Place, next_command};
 
@@ -17,8 +17,7 @@ pub fn next_command<'a>(
     place: Option<Location>,
 ) -> Option<(usize, Cursor<'a>)>
     requires { IsPlaceOf program.now.lines place }
-    ensures within { IfSome result (λ x. x.1.place ≤ length x.1.text) }
-    ensures next { (q : Option Place) → PlacesAre program.now.lines q place →
+    ensures { (q : Option Place) → PlacesAre program.now.lines q place →
         MatchOption result (next_command program.now.lines q ≡ None)
         (λ x. NextIs program.now.lines q
         (record { statement = x.0; at = x.1.place }) x.1.text) }

@@ -1,6 +1,6 @@
 // This file reads the word of a command and finds its end, for the translation of every command.
 
-ghost use Rattle.std.specs.Prelude.{◌≡◌, ◌≤◌, length};
+ghost use Rattle.std.specs.Prelude.{◌≡◌};
 ghost use Rattle.ptb_text.specs.Words.{IsCommand};
 ghost use Rattle.ptb_code.specs.Commands.{command_ends};
 ghost use Rattle.ptb_code.specs.Reads.{IsFirstWord};
@@ -20,12 +20,12 @@ pub(crate) fn command_ends(cursor: &Cursor) -> bool
 /// Takes the word with which a command begins; LET, and nothing is taken, where there is none.
 #[inline(always)]
 pub(crate) fn first_word(cursor: &mut Cursor) -> Word
-    requires { cursor.old.place ≤ length cursor.old.text }
     ensures first { IsFirstWord cursor.old.text cursor.old.place result cursor.new.place }
     ensures command { IsCommand result }
     ensures text { cursor.new.text ≡ cursor.old.text }
 {
     finding_laws();
+    cursor.bounds();
     match cursor.word(Table::Commands) {
         Some(word) => word,
         None => Word::LetKw,

@@ -7,13 +7,13 @@ use Rattle.ptb_code.proofs.Placed.{not_placed}
 use Rattle.ptb_code.proofs.Nexts.{placed, text_there, next_nowhere, next_here, next_last, next_empty, next_later}
 use Rattle.ptb_code.proofs.command_finder.next_command.Goals as goal
 
-pub returns-in_err-here-clause-next : goal.returns-in_err-here-clause-next
-returns-in_err-here-clause-next c q a =
+pub returns-in_err-here : goal.returns-in_err-here
+returns-in_err-here c q a =
     let none : c.from_residual.result ≡ None = search rules in
     rw none (next_nowhere c.args.program.now.lines q (subst (PlacesAre c.args.program.now.lines q) c.in_err-here.was a))
 
-pub returns-then-not-at_end-clause-next : goal.returns-then-not-at_end-clause-next
-returns-then-not-at_end-clause-next c q a =
+pub returns-then-not-at_end : goal.returns-then-not-at_end
+returns-then-not-at_end c q a =
     let p = c.args.program.now.lines in
     let over : is_over c.line_at.result.1.now c.in_ok-here.here.at ≡ false =
     rw c.new-cursor.ensures at (sym c.at_end.ensures ∙ c.if-not-at_end.true) in
@@ -23,8 +23,8 @@ returns-then-not-at_end-clause-next c q a =
     over)
     q (subst (PlacesAre p q) c.in_ok-here.was a))
 
-pub returns-in_err-following-clause-next : goal.returns-in_err-following-clause-next
-returns-in_err-following-clause-next c q a =
+pub returns-in_err-following : goal.returns-in_err-following
+returns-in_err-following c q a =
     let p = c.args.program.now.lines in
     let none : c.from_residual-in_err-following.result ≡ None = search rules in
     let over : is_over c.line_at.result.1.now c.in_ok-here.here.at ≡ true =
@@ -35,8 +35,8 @@ returns-in_err-following-clause-next c q a =
     (not_placed p _ (c.in_err-following.ensures.following q a.statement)))
     q (subst (PlacesAre p q) c.in_ok-here.was a))
 
-pub returns-then-at_end-clause-next : goal.returns-then-at_end-clause-next
-returns-then-at_end-clause-next c q a =
+pub returns-then-at_end : goal.returns-then-at_end
+returns-then-at_end c q a =
     let p = c.args.program.now.lines in
     let over : is_over c.line_at.result.1.now c.in_ok-here.here.at ≡ true =
     rw c.new-cursor.ensures at (sym c.at_end.ensures ∙ c.if-not-at_end.false) in
@@ -48,8 +48,8 @@ returns-then-at_end-clause-next c q a =
     (c.in_ok-following.ensures.following q a.statement) c.line_at-2.ensures.there over_after)
     q (subst (PlacesAre p q) c.in_ok-here.was a)
 
-pub returns-clause-next : goal.returns-clause-next
-returns-clause-next c q a =
+pub returns : goal.returns
+returns c q a =
     let p = c.args.program.now.lines in
     let over : is_over c.line_at.result.1.now c.in_ok-here.here.at ≡ true =
     rw c.new-cursor.ensures at (sym c.at_end.ensures ∙ c.if-not-at_end.false) in
