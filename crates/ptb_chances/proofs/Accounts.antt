@@ -5,7 +5,7 @@ use Rattle.std.proofs.Common.{refl, ap, sym, subst, ◌∙◌, arith}
 use Rattle.ptb_numbers.specs.Fractions.{Ratio, plus, Equals}
 use Rattle.ptb_answers.specs.Outcome.{Answers, Outcome, bounds}
 use Rattle.ptb_machine.specs.Play.{Finish}
-use Rattle.ptb_explore.specs.Chances.{RunResult, Row, chance, chance_of_all, result_of, result_order, runs_with}
+use Rattle.ptb_chances.specs.Chances.{RunResult, Row, chance, chance_of_all, result_of, result_order, runs_with}
 use Rattle.ptb_chances.specs.Accounts.{has_result, rows_with, chance_of_rows, runs_of_rows}
 use Rattle.ptb_chances.specs.Accounts.{chance_in, runs_in, AreAlike, AreSame, HasChance}
 use Rattle.ptb_chances.specs.Accounts.{ArePositive, account, row_of_run}

@@ -10,7 +10,7 @@ use Rattle.ptb_command.specs.Configuration.{Configuration}
 use Rattle.ptb_code.specs.State.{State}
 use Rattle.ptb_machine.specs.Laws.{RunLaws}
 use Rattle.ptb_machine.specs.Steps.{PlainTurns}
-use Rattle.ptb_explore.specs.PlannedPlays.{run_from}
+use Rattle.ptb_machine.specs.Play.{run_from}
 use Rattle.ptb_chances.specs.Standing.{Came, IsOver, SameEnd, IsStageAt}
 use Rattle.ptb_chances.proofs.PlaySteps.{advanced}
 use Rattle.ptb_chances.proofs.Picked.{whole}

@@ -9,8 +9,8 @@ use Rattle.ptb_answers.specs.Outcome.{Answers, Outcome}
 use Rattle.ptb_answers.specs.declared.rules.Rules.{Rules}
 use Rattle.ptb_command.specs.Configuration.{Configuration}
 use Rattle.ptb_machine.specs.Play.{Finish, play}
-use Rattle.ptb_explore.specs.Chances.{Row, chance_of_all}
-use Rattle.ptb_explore.specs.RunTree.{leaves, tree}
+use Rattle.ptb_chances.specs.Chances.{Row, chance_of_all}
+use Rattle.ptb_machine.specs.RunTree.{leaves, tree}
 use Rattle.ptb_chances.specs.Accounts.{AreAlike, account, chance_in, runs_in, row_of_run}
 use Rattle.ptb_chances.specs.Standing.{IsStageAt}
 use Rattle.ptb_chances.specs.Waiting.{Standing, Waits, CountsFor, below, Covers, Takes, SamePlace, IsJoined, Puts}

@@ -2,7 +2,7 @@
 -- Main lemma: `same_joined`.
 use Rattle.std.proofs.Common.{◌≡◌, ◌+◌, ◌*◌, Bool, true, false, List, [], ◌∷◌, ◌++◌, ap, sym, subst, ◌∙◌, arith}
 use Rattle.ptb_numbers.specs.Fractions.{Ratio, plus, Equals}
-use Rattle.ptb_explore.specs.Chances.{RunResult, Row}
+use Rattle.ptb_chances.specs.Chances.{RunResult, Row}
 use Rattle.ptb_chances.specs.Accounts.{AreSame, chance_in, chance_of_rows, has_result, rows_with, runs_in, runs_of_rows}
 use Rattle.ptb_chances.proofs.Accounts.{maybe}
 use Rattle.ptb_chances.proofs.Sums.{equals_plus, nothing, parts_same, plus_assoc}

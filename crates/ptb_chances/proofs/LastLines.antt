@@ -8,7 +8,7 @@ use Rattle.std.specs.Str.Lines.{strip_carriage_return}
 use Rattle.std.proofs.Math.Seq.{drop-cons}
 use Rattle.std.proofs.lemmas.List.{take-append-drop}
 use Rattle.ptb_text.specs.Lines.{lines, pieces, onto_first}
-use Rattle.ptb_explore.specs.Chances.{last_line}
+use Rattle.ptb_chances.specs.Chances.{last_line}
 use Rattle.ptb_chances.specs.Standing.{SameEnd}
 
 pub last_after_empty : (ls : List (List ℕ)) → last_line ([] ∷ ls) ≡ last_line ls

@@ -6,8 +6,8 @@ use Rattle.std.specs.Prelude.{ℤ, pos, negsuc}
 use Rattle.std.specs.List.{flat_map, range_with_len}
 use Rattle.ptb_answers.specs.Outcome.{Answers, Outcome, Done, Asks, IsReader, is_open, is_answer}
 use Rattle.ptb_machine.specs.Play.{Finish}
-use Rattle.ptb_explore.specs.RunTree.{answers_to, leaves, leaves_of}
-use Rattle.ptb_explore.proofs.PublicLemmas.{is_answer_from}
+use Rattle.ptb_machine.specs.RunTree.{answers_to, leaves, leaves_of}
+use Rattle.ptb_machine.proofs.PublicLemmas.{is_answer_from}
 use Rattle.ptb_answers.proofs.PublicLemmas.{open_is}
 
 pub done_leaves : (f : Answers → Outcome Finish (List ℕ)) (d : ℕ) (q : Answers) (x : Finish) → f q ≡ Done x []

@@ -19,3 +19,4 @@ mod Texts
 mod Totals
 mod Worklists
 mod PassedOn
+mod ChanceSums

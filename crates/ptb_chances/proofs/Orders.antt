@@ -11,8 +11,8 @@ use Rattle.std.proofs.lemmas.Map.Keys.{sorted_head, sorted_tail}
 use Rattle.std.proofs.lemmas.Map.Lookups.{exact_unsigned, exact_bytes}
 use Rattle.ptb_command.specs.declared.ending.Ending.{Ending}
 use Rattle.ptb_command.specs.declared.ending.Ending.TheVariants as endings
-use Rattle.ptb_explore.specs.Chances.{RunResult, rank, result_order, placed, with_result, results}
-use Rattle.ptb_explore.proofs.PublicLemmas.{every_ending}
+use Rattle.ptb_chances.specs.Chances.{RunResult, rank, result_order, placed, with_result, results}
+use Rattle.ptb_machine.proofs.PublicLemmas.{every_ending}
 use Rattle.ptb_chances.specs.Order.{result_order_total}
 
 -- ---- what is equal in the order is the same

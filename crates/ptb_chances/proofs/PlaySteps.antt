@@ -26,9 +26,9 @@ use Rattle.ptb_command.specs.Stops.{AsksUnanswered, IsOutOfLines}
 use Rattle.ptb_devices.specs.Sources.{Gives, LineList}
 use Rattle.ptb_machine.specs.Steps.{FitsProgram, PlainTurns, Steps}
 use Rattle.ptb_machine.specs.TurnResults.{StepsTo, goes, ends, StepComes}
-use Rattle.ptb_explore.specs.Chances.{last_line}
-use Rattle.ptb_explore.specs.PlannedPlays.{run_from}
-use Rattle.ptb_explore.proofs.PublicLemmas.{of_turn}
+use Rattle.ptb_chances.specs.Chances.{last_line}
+use Rattle.ptb_machine.specs.Play.{run_from}
+use Rattle.ptb_machine.proofs.PublicLemmas.{of_turn}
 use Rattle.ptb_chances.specs.Planned.{PlanAnswers, plan_choices, RefusedByPlanAnswers}
 use Rattle.ptb_chances.specs.Standing.{SameEnd, IsStageAt, Came, IsOver, IsAsked, PlaysTo, played_of}
 use Rattle.ptb_chances.specs.declared.plays.Played.{Played}

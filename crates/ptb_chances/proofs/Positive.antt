@@ -3,9 +3,9 @@
 use Rattle.std.proofs.Common.{◌≡◌, ℕ, zero, suc, ◌*◌, ◌<◌, List, [], ◌∷◌, subst, arith}
 use Rattle.ptb_answers.specs.Outcome.{Answers, Outcome, IsReader, bounds}
 use Rattle.ptb_machine.specs.Play.{Finish}
-use Rattle.ptb_explore.specs.Chances.{bound_product, chance_of_all}
-use Rattle.ptb_explore.specs.RunTree.{tree}
-use Rattle.ptb_explore.proofs.PublicLemmas.{sum_positive}
+use Rattle.ptb_chances.specs.Chances.{bound_product, chance_of_all}
+use Rattle.ptb_machine.specs.RunTree.{tree}
+use Rattle.ptb_chances.proofs.ChanceSums.{sum_positive}
 use Rattle.ptb_chances.specs.Accounts.{ArePositive, account}
 
 factors_positive : (a b : ℕ) → 0 < a * b → (0 < a) × (0 < b)

@@ -16,11 +16,11 @@ use Rattle.ptb_command.specs.Configuration.{Configuration}
 use Rattle.ptb_command.specs.Representation.{Represents}
 use Rattle.ptb_code.specs.State.{State, first_state}
 use Rattle.ptb_machine.specs.Play.{Finish, play}
-use Rattle.ptb_explore.specs.Chances.{Row, RunResult, answer_count, bound_product, chance_of_all}
-use Rattle.ptb_explore.specs.Chances.{last_line, result_of, result_order, runs_with}
-use Rattle.ptb_explore.specs.PlannedPlays.{run_from}
-use Rattle.ptb_explore.specs.RunTree.{answers_to, leaves, tree}
-use Rattle.ptb_explore.proofs.PublicLemmas.{bounds-append, is_answer_from}
+use Rattle.ptb_chances.specs.Chances.{Row, RunResult, answer_count, bound_product, chance_of_all}
+use Rattle.ptb_chances.specs.Chances.{last_line, result_of, result_order, runs_with}
+use Rattle.ptb_machine.specs.Play.{run_from}
+use Rattle.ptb_machine.specs.RunTree.{answers_to, leaves, tree}
+use Rattle.ptb_machine.proofs.PublicLemmas.{bounds-append, is_answer_from}
 use Rattle.ptb_chances.specs.Accounts.{AddsRow, AreSame, IsAccountOf, HasChance, account, chance_in}
 use Rattle.ptb_chances.specs.Accounts.{chance_of_rows, runs_of_rows}
 use Rattle.ptb_chances.specs.Standing.{IsStageAt, Came, IsOver, IsAsked}

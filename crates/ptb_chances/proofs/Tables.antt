@@ -15,8 +15,8 @@ use Rattle.std.proofs.lemmas.Map.Lookups.{btree_set_from_contains}
 use Rattle.ptb_numbers.specs.Fractions.{Ratio, lowest, Equals}
 use Rattle.ptb_answers.specs.Outcome.{Answers, Outcome}
 use Rattle.ptb_machine.specs.Play.{Finish}
-use Rattle.ptb_explore.specs.Chances.{RunResult, Row, chance_of_all, result_of, result_order}
-use Rattle.ptb_explore.specs.Chances.{results, row_of, runs_with, table}
+use Rattle.ptb_chances.specs.Chances.{RunResult, Row, chance_of_all, result_of, result_order}
+use Rattle.ptb_chances.specs.Chances.{results, row_of, runs_with, table}
 use Rattle.ptb_chances.specs.Accounts.{has_result, rows_with, chance_of_rows, runs_of_rows}
 use Rattle.ptb_chances.specs.Accounts.{chance_in, runs_in, HasChance, ArePositive, account}
 use Rattle.ptb_chances.specs.Accounts.{IsAccountOf, reduced, ResultsRise}

@@ -8,7 +8,7 @@ use Rattle.std.specs.Ordering.{is_eq, on, match_ordering}
 use Rattle.std.specs.declared.cmp.Ordering.{Ordering}
 use Rattle.std.specs.declared.cmp.Ordering.TheVariants.{Less, Equal, Greater}
 use Rattle.ptb_numbers.specs.Fractions.{Ratio}
-use Rattle.ptb_explore.specs.Chances.{Row, result_order}
+use Rattle.ptb_chances.specs.Chances.{Row, result_order}
 use Rattle.ptb_chances.specs.declared.result_key.ResultKey.{ResultKey}
 use Rattle.ptb_chances.specs.declared.tally.ResultShare.{ResultShare}
 use Rattle.ptb_chances.specs.Accounts.{AreAlike, AddsRow, AreSame, HasChance, ArePositive}

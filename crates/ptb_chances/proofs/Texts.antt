@@ -6,7 +6,7 @@ use Rattle.std.specs.List.Sorted.{IsStrictlySortedBy}
 use Rattle.std.specs.Ordering.{on}
 use Rattle.std.specs.Map.{keys_of}
 use Rattle.std.specs.declared.cmp.Ordering.TheVariants.{Less}
-use Rattle.ptb_explore.specs.Chances.{result_order}
+use Rattle.ptb_chances.specs.Chances.{result_order}
 use Rattle.ptb_chances.specs.declared.result_key.ResultKey.{ResultKey}
 use Rattle.ptb_chances.specs.declared.tally.ResultShare.{ResultShare}
 use Rattle.ptb_chances.specs.Accounts.{ResultsRise}

@@ -13,10 +13,10 @@ use Rattle.std.proofs.lemmas.Map.Keys.{sorted_head, sorted_tail}
 use Rattle.ptb_numbers.specs.Fractions.{Ratio, plus, lowest, Equals}
 use Rattle.ptb_answers.specs.Outcome.{Answers, Outcome, IsReader, bounds}
 use Rattle.ptb_machine.specs.Play.{Finish}
-use Rattle.ptb_explore.specs.Chances.{RunResult, Row, chance, chance_of_all, result_of}
-use Rattle.ptb_explore.specs.Chances.{result_order, results, row_of, runs_with, table}
-use Rattle.ptb_explore.specs.RunTree.{tree}
-use Rattle.ptb_explore.proofs.PublicLemmas.{whole_chance, sum_positive}
+use Rattle.ptb_chances.specs.Chances.{RunResult, Row, chance, chance_of_all, result_of}
+use Rattle.ptb_chances.specs.Chances.{result_order, results, row_of, runs_with, table}
+use Rattle.ptb_machine.specs.RunTree.{tree}
+use Rattle.ptb_chances.proofs.ChanceSums.{whole_chance, sum_positive}
 use Rattle.ptb_chances.specs.Accounts.{has_result, rows_with, chance_of_rows, runs_of_rows, ArePositive, account}
 use Rattle.ptb_chances.specs.Order.{result_order_total}
 use Rattle.ptb_chances.specs.TableLaws.{TableLaws}

@@ -18,7 +18,7 @@ use Rattle.std.specs.Ordering.{is_eq}
 use Rattle.ptb_numbers.specs.Fractions.{Ratio, total, lowest, Equals}
 use Rattle.ptb_answers.specs.Outcome.{Answers, Outcome, bounds}
 use Rattle.ptb_machine.specs.Play.{Finish}
-use Rattle.ptb_explore.specs.Chances.{RunResult, Row, chance, result_of, result_order}
+use Rattle.ptb_chances.specs.Chances.{RunResult, Row, chance, result_of, result_order}
 
 -- ---- what an account has
 

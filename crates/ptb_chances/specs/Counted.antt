@@ -3,7 +3,7 @@
 --     load_left s ws           more than is left to be done
 use Rattle.std.specs.Prelude.{ℕ, List}
 use Rattle.ptb_machine.specs.Questions.{most_answers}
-use Rattle.ptb_explore.specs.Chances.{Row}
+use Rattle.ptb_chances.specs.Chances.{Row}
 use Rattle.ptb_chances.specs.declared.stage.Stage.{Stage}
 use Rattle.ptb_chances.specs.Waiting.{Accounted, Standing, load}
 

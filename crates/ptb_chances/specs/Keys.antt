@@ -6,9 +6,9 @@
 --     share_text, result_text   the two parts of a row's text
 use Rattle.std.specs.Prelude.{◌≡◌, ℕ, ◌+◌, ◌<◌, List, map, Option, None, Some, ◌++◌, codes, length}
 use Rattle.ptb_numbers.specs.Fractions.{Ratio, Equals, plus}
-use Rattle.ptb_explore.specs.Chances.{RunResult, Row, ratio_text}
-use Rattle.ptb_explore.specs.Report.{ending_word}
-use Rattle.ptb_explore.specs.ReportText.{field}
+use Rattle.ptb_chances.specs.Chances.{RunResult, Row, ratio_text}
+use Rattle.ptb_machine.specs.EndingWords.{ending_word}
+use Rattle.ptb_machine.specs.EndingWords.{field}
 use Rattle.ptb_numbers.specs.Decimals.{decimals}
 use Rattle.ptb_chances.specs.declared.result_key.ResultKey.{ResultKey}
 use Rattle.ptb_chances.specs.declared.tally.ResultShare.{ResultShare}

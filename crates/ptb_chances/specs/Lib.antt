@@ -1,4 +1,5 @@
 -- This file names the files of definitions.
+pub mod Chances
 pub mod Accounts
 pub mod Counted
 pub mod Continuations

@@ -1,10 +1,11 @@
 -- This file passes on the definitions that the clauses of this crate cite most. It declares nothing.
 pub use Rattle.ptb_answers.specs.Outcome.{is_open}
 pub use Rattle.ptb_devices.specs.Screens.{IsScreenFault}
-pub use Rattle.ptb_explore.specs.Chances.{chances, last_line, rank, result_order, ratio_text, row_text, table_text}
-pub use Rattle.ptb_explore.specs.PlannedPlays.{run_from}
-pub use Rattle.ptb_explore.specs.ReportText.{field}
-pub use Rattle.ptb_explore.specs.RunTree.{tree}
+pub use Rattle.ptb_chances.specs.Chances.{chance_of_all, chances, last_line, rank, result_order, ratio_text}
+pub use Rattle.ptb_chances.specs.Chances.{row_text, table_text}
+pub use Rattle.ptb_machine.specs.Play.{run_from}
+pub use Rattle.ptb_machine.specs.EndingWords.{field}
+pub use Rattle.ptb_machine.specs.RunTree.{tree}
 pub use Rattle.ptb_command.specs.Configuration.{Configuration}
 pub use Rattle.ptb_machine.specs.Play.{play}
 pub use Rattle.ptb_machine.specs.Questions.{most_answers}
@@ -21,6 +22,7 @@ pub use Rattle.ptb_chances.specs.Continuations.{ComesTo, GoesOn}
 pub use Rattle.ptb_chances.specs.Counted.{IsTallied, load_left}
 pub use Rattle.ptb_chances.specs.Keys.{key_result, result_text, row_of_share, share_text}
 pub use Rattle.ptb_chances.specs.Order.{result_order_total}
+pub use Rattle.ptb_chances.specs.TableLaws.{TableLaws}
 pub use Rattle.ptb_chances.specs.Standing.{CanPlay, PlaysTo, SameEnd, IsStageAt, IsStageAtPlace}
 pub use Rattle.ptb_chances.specs.Waiting.{planned, standings, after_answer, first_standing, gone_to, Puts, PutsAnswers}
 pub use Rattle.ptb_chances.specs.Waiting.{states_left, Takes, unplanned}

@@ -20,8 +20,8 @@ use Rattle.ptb_command.specs.Configuration.{Configuration}
 use Rattle.ptb_command.specs.Representation.{Represents}
 use Rattle.ptb_code.specs.State.{State}
 use Rattle.ptb_machine.specs.Play.{Finish}
-use Rattle.ptb_explore.specs.Chances.{last_line}
-use Rattle.ptb_explore.specs.PlannedPlays.{run_from}
+use Rattle.ptb_chances.specs.Chances.{last_line}
+use Rattle.ptb_machine.specs.Play.{run_from}
 use Rattle.ptb_chances.specs.declared.plays.Played.{Played}
 use Rattle.ptb_chances.specs.declared.plays.Played.TheVariants as played
 use Rattle.ptb_chances.specs.declared.stage.Stage.{Stage}

@@ -4,8 +4,8 @@ use Rattle.std.specs.Prelude.{◌≡◌, ℕ, ◌<◌, List, length}
 use Rattle.ptb_numbers.specs.Fractions.{Equals}
 use Rattle.ptb_answers.specs.Outcome.{Answers, Outcome}
 use Rattle.ptb_machine.specs.Play.{Finish}
-use Rattle.ptb_explore.specs.Chances.{table}
-use Rattle.ptb_explore.specs.RunTree.{tree}
+use Rattle.ptb_chances.specs.Chances.{table}
+use Rattle.ptb_machine.specs.RunTree.{tree}
 use Rattle.ptb_chances.specs.Accounts.{ResultsRise, chance_of_rows, runs_of_rows}
 
 pub record TableLaws (play : Answers → Outcome Finish (List ℕ)) (most : ℕ) : Type 0 where

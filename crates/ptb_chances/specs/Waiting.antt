@@ -21,9 +21,9 @@ use Rattle.ptb_answers.specs.declared.rules.Rules.{Rules}
 use Rattle.ptb_command.specs.Configuration.{Configuration}
 use Rattle.ptb_code.specs.State.{State}
 use Rattle.ptb_machine.specs.Play.{play}
-use Rattle.ptb_explore.specs.Chances.{Row, answer_count, bound_product, chance_of_all}
-use Rattle.ptb_explore.specs.PlannedPlays.{run_from}
-use Rattle.ptb_explore.specs.RunTree.{leaves, tree}
+use Rattle.ptb_chances.specs.Chances.{Row, answer_count, bound_product, chance_of_all}
+use Rattle.ptb_machine.specs.Play.{run_from}
+use Rattle.ptb_machine.specs.RunTree.{leaves, tree}
 use Rattle.ptb_chances.specs.declared.worklist.Place.{Place}
 use Rattle.ptb_chances.specs.declared.worklist.Plan.{Plan}
 use Rattle.ptb_chances.specs.declared.worklist.Waiting.{Waiting}

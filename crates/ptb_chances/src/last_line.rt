@@ -1,7 +1,7 @@
 // This file finds the last line of a text, and the end of a text on which it depends.
 
 ghost use Rattle.std.specs.Prelude.{◌≡◌};
-ghost use Rattle.ptb_explore.specs.Chances.{last_line};
+ghost use Rattle.ptb_chances.specs.Chances.{last_line};
 ghost use Rattle.std.specs.Prelude.{◌≤◌, ◌-◌, ◌⊎◌, drop, get_or, length, IfOk};
 ghost use Rattle.ptb_text.specs.Lines.{lines};
 ghost use Rattle.ptb_chances.specs.Standing.{SameEnd};

@@ -1,9 +1,18 @@
-// This file states the laws of tables.
+// This file states the laws of chances and tables.
 
-ghost use Rattle.std.specs.Prelude.{ℕ, List};
+ghost use Rattle.std.specs.Prelude.{ℕ, ◌<◌, List};
+ghost use Rattle.ptb_numbers.specs.Fractions.{Equals};
 ghost use Rattle.ptb_answers.specs.Outcome.{Answers, Outcome, IsReader};
 ghost use Rattle.ptb_machine.specs.Play.{Finish};
-ghost use Rattle.ptb_chances.specs.TableLaws.{TableLaws};
+ghost use Rattle.ptb_chances.specs.Prelude.{chance_of_all, tree, TableLaws};
+
+/// The chances of all runs add up to 1. Their sum has a denominator, which is not 0.
+pub fn chance_laws<A, W>()
+    ensures sum { (play : Answers → Outcome A W) (most : ℕ) → IsReader play most
+        → Equals (chance_of_all play (tree play most)) (record { numerator = 1; denominator = 1 }) }
+    ensures positive { (play : Answers → Outcome A W) (most : ℕ) → IsReader play most
+        → 0 < (chance_of_all play (tree play most)).denominator }
+{}
 
 /// The results of the table of all runs rise. Their chances add up to 1, and their numbers of runs to
 /// the number of all runs.

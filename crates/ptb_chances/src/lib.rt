@@ -1,10 +1,9 @@
 //! The exact chance of each result of a program's runs.
 //!
-//! It depends on `ptb_explore` for the runs and for the definitions of results, chances and their
-//! table, on `ptb_numbers` for numbers of any size, on `ptb_machine`, `ptb_answers` and `ptb_text`,
-//! and on definitions of `ptb_command`, `ptb_code` and `ptb_devices`. The crate above may rely on
-//! `chances_text` and `write_chances` (the text of the table) and on `table_laws`. What watches how
-//! far a table is counted implements `Watch`.
+//! It depends on `ptb_machine` for the runs, on `ptb_numbers` for numbers of any size, on
+//! `ptb_answers` and `ptb_text`, and on definitions of `ptb_command`, `ptb_code` and `ptb_devices`.
+//! The crate above may rely on `chances_text` and `write_chances` (the text of the table), on
+//! `chance_laws` and on `table_laws`. What watches how far a table is counted implements `Watch`.
 #![tactic(auto)]
 
 mod chances;
@@ -21,5 +20,5 @@ mod watch;
 mod worklist;
 
 pub use chances::{chances_text, write_chances};
-pub use laws::table_laws;
+pub use laws::{chance_laws, table_laws};
 pub use watch::{Unwatched, Watch};

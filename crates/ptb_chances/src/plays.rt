@@ -3,7 +3,7 @@
 ghost use Rattle.std.specs.Prelude.{◌≡◌, ◌-◌, ◌<◌, ◌≤◌, ℕ, false, true, drop, length, take, IfOk};
 ghost use Rattle.ptb_answers.specs.Outcome.{is_open};
 ghost use Rattle.ptb_code.specs.State.{State};
-ghost use Rattle.ptb_explore.specs.PlannedPlays.{run_from};
+ghost use Rattle.ptb_machine.specs.Play.{run_from};
 ghost use Rattle.ptb_chances.specs.Standing.{played_of, PlaysTo, IsStageAt};
 
 use crate::planned::PlanChooser;

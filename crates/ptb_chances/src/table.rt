@@ -6,7 +6,7 @@ ghost use Rattle.ptb_chances.specs.Prelude.{ResultsRise, reduced, key_result, re
 
 use crate::result_key::ResultKey;
 use crate::tally::{ResultShare, Tally};
-use ptb_explore::word;
+use ptb_machine::word;
 use ptb_numbers::{LowestTerms, Natural};
 use std::alloc::{AllocError, Global};
 

@@ -26,7 +26,7 @@ pub(crate) struct Tally {
 
 impl Model for Tally {
     ghost use Rattle.std.specs.Prelude.{List};
-    ghost use Rattle.ptb_explore.specs.Chances.{Row};
+    ghost use Rattle.ptb_chances.specs.Chances.{Row};
     ghost use Rattle.ptb_chances.specs.Keys.{rows_of};
 
     ghost Value = { List Row };

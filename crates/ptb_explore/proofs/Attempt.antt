@@ -9,7 +9,7 @@ use Rattle.std.proofs.lemmas.List.{take-append-drop}
 use Rattle.std.proofs.Math.Seq.{take-length}
 use Rattle.ptb_answers.specs.Outcome.{Answers, Outcome, Done, Asks, Out, IsReader, is_answer, is_open, bounds}
 use Rattle.ptb_answers.proofs.PublicLemmas.{whole_is}
-use Rattle.ptb_explore.specs.RunTree.{IsRun}
+use Rattle.ptb_machine.specs.RunTree.{IsRun}
 use Rattle.ptb_explore.specs.Plans.{AllOnes, PlanEndsWith}
 
 pub all_ones : (n : ℕ) → AllOnes (replicate n (pos 1))

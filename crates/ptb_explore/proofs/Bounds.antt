@@ -4,20 +4,10 @@ use Rattle.std.proofs.Common.{◌≡◌, List, [], ◌∷◌, ◌++◌, length, 
 use Rattle.std.specs.Prelude.{ℤ, Some}
 use Rattle.ptb_answers.specs.Outcome.{Answers, Outcome, bound_of, bounds, bounds_after}
 use Rattle.ptb_answers.specs.Choices.{Choices, with_bounds, AsksFor, Reaches}
+use Rattle.ptb_machine.proofs.PublicLemmas.{bounds-append}
 use Rattle.ptb_explore.specs.PlannedPlays.{Holds}
 
 module _ {A W : Type 0} (play : Answers → Outcome A W) where
-  pub length-bounds : (p a : Answers) → length (bounds_after play p a) ≡ length a
-  length-bounds p [] = refl
-  length-bounds p (k ∷ a) = let e = length-bounds (p ++ k ∷ []) a in omega arith
-
-  pub bounds-append : (p s t : Answers)
-      → bounds_after play p (s ++ t) ≡ bounds_after play p s ++ bounds_after play (p ++ s) t
-  bounds-append p [] t = ap (λ q. bounds_after play q t) (sym (append-nil p))
-  bounds-append p (k ∷ s) t =
-      ap (λ l. bound_of (play p) ∷ l) (bounds-append (p ++ k ∷ []) s t
-      ∙ ap (λ q. bounds_after play (p ++ k ∷ []) s ++ bounds_after play q t) (append_assoc p (k ∷ []) s))
-
   -- the bounds of answers that continue from t
   pub bounds_from : (t q a : Answers) → bounds_after play (t ++ q) a ≡ bounds_after (λ later. play (t ++ later)) q a
   bounds_from t q [] = refl

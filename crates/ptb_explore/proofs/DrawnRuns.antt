@@ -25,7 +25,8 @@ use Rattle.ptb_machine.specs.Steps.{Steps}
 use Rattle.ptb_machine.specs.TurnResults.{StepComes, StepsTo}
 use Rattle.ptb_explore.specs.ReportText.{report_text}
 use Rattle.ptb_explore.specs.PlannedPlays.{Holds, IsRunPrefix}
-use Rattle.ptb_explore.specs.Report.{report, report_of, ending_word}
+use Rattle.ptb_explore.specs.Report.{report, report_of}
+use Rattle.ptb_machine.specs.EndingWords.{ending_word}
 use Rattle.ptb_explore.specs.Sampling.{PlaysDrawn, WritesRun}
 use Rattle.ptb_text.specs.declared.device_fault.DeviceFault.{DeviceFault}
 use Rattle.ptb_explore.proofs.RunPrefix.{ends_dry, ends_so, text_state}

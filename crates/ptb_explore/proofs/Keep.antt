@@ -19,9 +19,9 @@ use Rattle.ptb_explore.specs.Copies.{KeepsCopy, with_room, GoesBackTo, IsCopyAt,
 use Rattle.ptb_explore.specs.Copies.{AreCopies, Agrees, kept_runs, newest_steps, kept_steps}
 use Rattle.ptb_explore.specs.Copies.{WentBack, last_steps_of, last_steps, AreBeginnings, AreTakenBy}
 use Rattle.ptb_explore.specs.Copies.{ArePlaces}
-use Rattle.ptb_explore.specs.RunTree.{begins_with}
+use Rattle.ptb_machine.specs.RunTree.{begins_with}
 use Rattle.std.proofs.lemmas.Bool.{false_from_ne_true, and_parts, and_from}
-use Rattle.ptb_explore.proofs.Bounds.{length-bounds}
+use Rattle.ptb_machine.proofs.PublicLemmas.{length-bounds}
 use Rattle.ptb_explore.proofs.Order.{same_is, same_from}
 
 pub take_shorter : {X : Type 0} (i j : ℕ) (s : List X) → i ≤ j → take i (take j s) ≡ take i s

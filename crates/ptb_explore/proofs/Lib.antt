@@ -5,14 +5,12 @@ mod ReportText
 mod AskedLists
 mod WrittenTexts
 mod Order
-mod EveryEnding
 mod Lists
 mod Tree
 mod Next
 mod RunsAfter
 mod Shares
 mod Bounds
-mod Chances
 mod RaisedAnswers
 mod Attempt
 mod RecorderPlans

@@ -16,7 +16,8 @@ use Rattle.ptb_code.specs.State.{Place, State, next_command}
 use Rattle.ptb_machine.specs.Laws.{RunLaws}
 use Rattle.ptb_machine.specs.Play.{Finish, act_unless, after_step_result, finish_in, play, turn, turn_by, turns}
 use Rattle.ptb_explore.specs.Copies.{AreTakenBy}
-use Rattle.ptb_explore.specs.PlannedPlays.{IsRunPrefix, limited, run_from}
+use Rattle.ptb_explore.specs.PlannedPlays.{IsRunPrefix, limited}
+use Rattle.ptb_machine.specs.Play.{run_from}
 
 -- ---- turns
 

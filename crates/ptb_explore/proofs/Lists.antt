@@ -7,7 +7,8 @@ use Rattle.std.specs.List.{filter, flat_map, range_with_len, AllByRecursion}
 use Rattle.std.proofs.lemmas.Bool.{cases_Bool, cases_lt, and_parts, and_from, leb-true, le-leb}
 use Rattle.std.proofs.lemmas.Int.{ints}
 use Rattle.ptb_answers.specs.Outcome.{Answers, is_answer}
-use Rattle.ptb_explore.specs.RunTree.{Before, IsRising, answers_to}
+use Rattle.ptb_machine.proofs.PublicLemmas.{is_answer_from}
+use Rattle.ptb_machine.specs.RunTree.{Before, IsRising, answers_to}
 
 -- ---- members
 
@@ -131,9 +132,6 @@ rising_branches f m (suc n) each apart =
     apart m p.0 a b (omega arith) (omega (arith, p.1)) (omega (arith, p.2)) i p.3)
 
 -- ---- a list for each answer to a question
-
-pub is_answer_from : (n k : ℕ) → 1 ≤ k → k ≤ n → is_answer (pos n) (pos k) ≡ true
-is_answer_from n k l u = and_from (int_le (pos 1) (pos k)) (int_le (pos k) (pos n)) (le-leb 1 k l) (le-leb k n u)
 
 pub in_answers : (f : ℤ → List Answers) (a : Answers) (n : ℤ) → IsIn a (flat_map f (answers_to n))
     → (k : ℤ) × (is_answer n k ≡ true) × IsIn a (f k)

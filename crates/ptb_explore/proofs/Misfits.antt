@@ -15,8 +15,8 @@ use Rattle.ptb_explore.specs.declared.mismatch.Mismatch.TheVariants.{NoQuestion,
 use Rattle.ptb_explore.specs.MarkedRuns.{IsMarkedRun, IsMarkedBeginning, is_bound, states_bounds}
 use Rattle.ptb_explore.specs.Mismatch.{IsAskedFor, IsQuestion, IsItemMismatch, IsMissing, IsRunMismatch}
 use Rattle.ptb_explore.specs.Mismatch.{IsUnder, MismatchLaws}
-use Rattle.ptb_explore.specs.RunTree.{IsRun, begins_with}
-use Rattle.ptb_explore.proofs.Bounds.{length-bounds, bounds-append}
+use Rattle.ptb_machine.specs.RunTree.{IsRun, begins_with}
+use Rattle.ptb_machine.proofs.PublicLemmas.{length-bounds, bounds-append}
 use Rattle.ptb_explore.proofs.Mismatches.{answers_length, answers_split, item_is_run}
 use Rattle.ptb_explore.proofs.Mismatches.{mismatch_closes, run_begins, run_closes, same_question}
 use Rattle.ptb_explore.proofs.Order.{same_from}

@@ -20,9 +20,9 @@ use Rattle.ptb_explore.specs.declared.mismatch.Mismatch.TheVariants.{NoQuestion,
 use Rattle.ptb_explore.specs.MarkedRuns.{IsMarkedRun, IsMarkedBeginning, is_bound, states_bounds}
 use Rattle.ptb_explore.specs.Mismatch.{IsOutOfRange, IsOtherBound, IsOver, IsItemMismatch}
 use Rattle.ptb_explore.specs.Mismatch.{IsMissing, IsRunMismatch, IsUnder, TakesItems}
-use Rattle.ptb_explore.specs.RunTree.{IsRun}
+use Rattle.ptb_machine.specs.RunTree.{IsRun}
 use Rattle.ptb_explore.proofs.Attempt.{run_opens}
-use Rattle.ptb_explore.proofs.Bounds.{length-bounds, bounds-append}
+use Rattle.ptb_machine.proofs.PublicLemmas.{length-bounds, bounds-append}
 use Rattle.ptb_explore.proofs.Order.{same_is}
 use Rattle.ptb_explore.proofs.Stated.{states_begun}
 use Rattle.ptb_explore.proofs.Tree.{next_asks, run_asks}

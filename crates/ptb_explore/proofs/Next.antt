@@ -8,9 +8,9 @@ use Rattle.std.proofs.lemmas.Bool.{false_from_ne_true, and_parts, and_from}
 use Rattle.std.proofs.lemmas.Int.{ints}
 use Rattle.std.specs.List.{filter}
 use Rattle.ptb_answers.specs.Outcome.{Answers, Outcome, IsReader, bound_of, is_answer}
-use Rattle.ptb_explore.specs.RunTree.{IsRun, IsRising, tree, is_before, Before, Front, Start, At}
-use Rattle.ptb_explore.specs.RunTree.{End, is_after, is_left, begins_with, runs_after, IsNextRun}
-use Rattle.ptb_explore.specs.RunTree.{IsLast}
+use Rattle.ptb_machine.specs.RunTree.{IsRun, IsRising, tree, is_before, Before, Front, Start, At}
+use Rattle.ptb_machine.specs.RunTree.{End, is_after, is_left, begins_with, runs_after, IsNextRun}
+use Rattle.ptb_machine.specs.RunTree.{IsLast}
 use Rattle.ptb_explore.specs.Plans.{AllOnes}
 use Rattle.ptb_explore.proofs.Lists.{IsIn, all_at, in_filter}
 use Rattle.ptb_explore.proofs.Order.{before_step, before_self, before_then, before_not_back}

@@ -26,7 +26,7 @@ use Rattle.ptb_explore.specs.Openings.{IsPlayedBefore}
 use Rattle.ptb_explore.specs.declared.plan.ListingPosition.{ListingPosition}
 use Rattle.ptb_explore.specs.declared.plan.ListingPosition.TheVariants.{AtRun}
 use Rattle.ptb_explore.specs.Plans.{IsPosition}
-use Rattle.ptb_explore.specs.RunTree.{At, Front, IsNextRun, Start, begins_with}
+use Rattle.ptb_machine.specs.RunTree.{At, Front, IsNextRun, Start, begins_with}
 use Rattle.ptb_explore.proofs.Keep.{kept_beginnings}
 use Rattle.ptb_explore.proofs.Runners.{added_alone}
 

@@ -7,7 +7,7 @@ use Rattle.std.proofs.lemmas.Bool.{or_cases, and_parts, and_from, or_left, or_ri
 use Rattle.std.proofs.lemmas.Bool.Decides.{Decides-int_eq}
 use Rattle.std.proofs.lemmas.Int.{ints}
 use Rattle.ptb_answers.specs.Outcome.{Answers}
-use Rattle.ptb_explore.specs.RunTree.{is_before, Before, begins_with}
+use Rattle.ptb_machine.specs.RunTree.{is_before, Before, begins_with}
 
 -- ---- tests of numbers
 

@@ -8,17 +8,17 @@ use Rattle.std.proofs.Math.Seq.{take-length}
 use Rattle.std.specs.Prelude.{ℤ, pos}
 use Rattle.ptb_answers.specs.Choices.{Choices}
 use Rattle.ptb_answers.specs.Outcome.{Answers, Outcome, Done, IsReader, is_open, is_whole, bounds, bounds_after}
-use Rattle.ptb_explore.proofs.EveryEnding.{every_ending}
+use Rattle.ptb_machine.proofs.PublicLemmas.{every_ending}
 use Rattle.ptb_explore.proofs.Recorded.{given_len, recorded_len, whole_bounds}
 use Rattle.ptb_answers.specs.Asked.{bounds_in}
 use Rattle.ptb_explore.specs.declared.recorder.Recorder.{Recorder}
-use Rattle.ptb_explore.specs.RunTree.{IsRun}
+use Rattle.ptb_machine.specs.RunTree.{IsRun}
 use Rattle.ptb_explore.specs.Plans.{IsFresh, PlanEndsWith}
 use Rattle.ptb_explore.specs.Recorders.{recorder_choices, given_bounds, recorded}
 use Rattle.ptb_command.specs.declared.ending.Ending.{Ending}
 use Rattle.ptb_machine.specs.Play.{Finish}
 use Rattle.ptb_explore.specs.PlannedPlays.{Holds, NextIsOutside, PlayEnds}
-use Rattle.ptb_explore.proofs.Bounds.{bounds-append, length-bounds}
+use Rattle.ptb_machine.proofs.PublicLemmas.{bounds-append, length-bounds}
 use Rattle.ptb_explore.proofs.Tree.{run_open}
 use Rattle.ptb_explore.proofs.Attempt.{Took, ends_at}
 

@@ -9,7 +9,7 @@ use Rattle.std.specs.Io.KnownBytes.{Appends}
 use Rattle.std.proofs.KnownBytes.{Appends-trans}
 use Rattle.ptb_text.specs.Device.{TakesSome}
 use Rattle.ptb_answers.specs.Outcome.{Answers, Outcome, IsReader}
-use Rattle.ptb_explore.specs.RunTree.{Front, At, End, IsNextRun, IsLast, runs_after, runs_left}
+use Rattle.ptb_machine.specs.RunTree.{Front, At, End, IsNextRun, IsLast, runs_after, runs_left}
 use Rattle.ptb_explore.specs.Listing.{less_one, text, front_after, count_of, WritesList, WritesSome, WritesInto}
 use Rattle.ptb_explore.proofs.Next.{left_next, left_none, none_left}
 

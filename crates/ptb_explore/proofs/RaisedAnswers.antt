@@ -10,7 +10,7 @@ use Rattle.std.proofs.lemmas.Int.{ints}
 use Rattle.std.proofs.lemmas.List.{length-take-le}
 use Rattle.ptb_answers.specs.Outcome.{Answers, Outcome, Asks, IsReader, is_open, is_answer}
 use Rattle.ptb_answers.specs.Outcome.{bound_of, bounds, bounds_after}
-use Rattle.ptb_explore.specs.RunTree.{Front, Start, At, End, IsRun, IsNextRun, IsLast, Before, begins_with}
+use Rattle.ptb_machine.specs.RunTree.{Front, Start, At, End, IsRun, IsNextRun, IsLast, Before, begins_with}
 use Rattle.ptb_explore.specs.declared.plan.ListingPosition.{ListingPosition}
 use Rattle.ptb_explore.specs.declared.plan.ListingPosition.TheVariants.{AtStart, AtRun, AtEnd}
 use Rattle.ptb_explore.specs.Plans.{IsPlan, IsLastBelow, PlansNext, IsPosition, front_at, PlanEndsWith}

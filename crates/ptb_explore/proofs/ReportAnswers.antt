@@ -19,12 +19,14 @@ use Rattle.ptb_answers.specs.declared.form.Form.TheVariants.{One, Two}
 use Rattle.ptb_answers.specs.declared.form.Marked.{Marked}
 use Rattle.ptb_answers.proofs.PublicLemmas.{whole_is}
 use Rattle.ptb_machine.specs.Play.{Finish}
-use Rattle.ptb_explore.specs.ReportText.{report_text, field}
-use Rattle.ptb_explore.specs.Report.{report, report_of, ending_word}
+use Rattle.ptb_explore.specs.ReportText.{report_text}
+use Rattle.ptb_machine.specs.EndingWords.{field}
+use Rattle.ptb_explore.specs.Report.{report, report_of}
+use Rattle.ptb_machine.specs.EndingWords.{ending_word}
 use Rattle.ptb_explore.specs.Laws.{AreNumbers, ReportLaws}
-use Rattle.ptb_explore.specs.RunTree.{IsRun, runs_after}
+use Rattle.ptb_machine.specs.RunTree.{IsRun, runs_after}
 use Rattle.ptb_explore.proofs.RunsAfter.{listing_laws}
-use Rattle.ptb_explore.proofs.Bounds.{length-bounds}
+use Rattle.ptb_machine.proofs.PublicLemmas.{length-bounds}
 use Rattle.ptb_explore.proofs.Next.{is_answer_is}
 use Rattle.ptb_explore.proofs.Shares.{share_laws}
 use Rattle.ptb_explore.proofs.Tree.{run_asks}

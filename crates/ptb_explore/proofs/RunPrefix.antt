@@ -28,8 +28,10 @@ use Rattle.ptb_machine.specs.Steps.{PlainTurns, Steps}
 use Rattle.ptb_machine.specs.TurnResults.{StepsTo, goes, ends, StepComes}
 use Rattle.ptb_answers.specs.declared.rules.Rules.{Rules}
 use Rattle.ptb_machine.specs.Questions.{most_answers}
+use Rattle.ptb_machine.proofs.PublicLemmas.{of_turn}
 use Rattle.ptb_explore.specs.Laws.{TreeLaws}
-use Rattle.ptb_explore.specs.PlannedPlays.{Holds, NextIsOutside, PlayEnds, limited, run_from, IsRunPrefix}
+use Rattle.ptb_explore.specs.PlannedPlays.{Holds, NextIsOutside, PlayEnds, limited, IsRunPrefix}
+use Rattle.ptb_machine.specs.Play.{run_from}
 use Rattle.ptb_explore.specs.Recorders.{RefusedByPlan}
 use Rattle.ptb_explore.proofs.Limits.{turn_below}
 use Rattle.ptb_explore.proofs.Tree.{tree_laws}
@@ -346,21 +348,6 @@ pub record Extends (c d : Choices) (s t : List ℕ) : Type 0 where
   pub bytes : List ℕ
   pub taken : d.taken ≡ c.taken ++ answers
   pub shown : t ≡ s ++ bytes
-
--- what follows of each turn follows of the last one of a run, however it ended
-pub of_turn : {P : Type 0} (refused : Refusal → Type 0) (R : Devices → (State → Answers → Outcome StepResult State) →
-    Type 0)
-    (n : Devices) → ((g : State → Answers → Outcome StepResult State) → R n g → P) → (e : Ending)
-    → StepComes refused R n (Ok (Some e)) → P
-of_turn refused R n f endings.End x = f (ends endings.End) x
-of_turn refused R n f endings.Stop x = f (ends endings.Stop) x
-of_turn refused R n f endings.What x = f (ends endings.What) x
-of_turn refused R n f endings.How x = f (ends endings.How) x
-of_turn refused R n f endings.Sorry x = f (ends endings.Sorry) x
-of_turn refused R n f endings.Limit x = f (ends endings.Limit) x
-of_turn refused R n f endings.NoInput w = f w.left w.comes
-of_turn refused R n f endings.NoAnswer w = f w.left w.comes
-of_turn refused R n f endings.BadAnswer w = f w.1.left w.1.comes
 
 module _ (p : StoredProgram) (input : List (List ℕ)) (rules : Rules) (m new : Configuration)
     (c d : Choices) (s t : List ℕ) (given left rest : List (List ℕ)) (most few : ℕ) (refused : Refusal

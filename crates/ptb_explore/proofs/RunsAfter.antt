@@ -9,7 +9,7 @@ use Rattle.std.proofs.lemmas.Bool.{false_from_ne_true}
 use Rattle.ptb_answers.specs.Outcome.{Answers, Outcome, IsReader}
 use Rattle.ptb_explore.specs.Laws.{ListingLaws}
 use Rattle.ptb_explore.specs.Listing.{text}
-use Rattle.ptb_explore.specs.RunTree.{Front, At, IsRun, IsRising, tree, is_left, is_before, Before, runs_after}
+use Rattle.ptb_machine.specs.RunTree.{Front, At, IsRun, IsRising, tree, is_left, is_before, Before, runs_after}
 use Rattle.ptb_explore.proofs.Lists.{all_at, contained_in, filter_in, in_contained, in_filter, in_right, rising_filter}
 use Rattle.ptb_explore.proofs.Order.{before_self, before_not_back}
 use Rattle.ptb_explore.proofs.Tree.{tree_rises, tree_runs}

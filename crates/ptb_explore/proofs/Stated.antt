@@ -11,8 +11,8 @@ use Rattle.ptb_answers.specs.AnswerText.{answers_of, unmarked}
 use Rattle.std.specs.Ordering.{int_eq}
 use Rattle.std.proofs.Math.Bool.{and-false}
 use Rattle.ptb_explore.specs.MarkedRuns.{IsMarkedRun, is_bound, states_bounds}
-use Rattle.ptb_explore.specs.RunTree.{IsRun, begins_with}
-use Rattle.ptb_explore.proofs.Bounds.{length-bounds}
+use Rattle.ptb_machine.specs.RunTree.{IsRun, begins_with}
+use Rattle.ptb_machine.proofs.PublicLemmas.{length-bounds}
 use Rattle.ptb_explore.proofs.Order.{same_from}
 
 -- bounds after those of the list are not looked at

@@ -9,7 +9,7 @@ use Rattle.std.proofs.lemmas.Bool.{cases_Bool}
 use Rattle.std.specs.List.{flat_map}
 use Rattle.ptb_answers.specs.Outcome.{Answers, Outcome, Done, Asks, Out, IsReader, is_open, is_answer}
 use Rattle.ptb_answers.proofs.PublicLemmas.{whole_is, open_is, closed_is}
-use Rattle.ptb_explore.specs.RunTree.{IsRun, IsRising, answers_to, leaves, leaves_of, tree}
+use Rattle.ptb_machine.specs.RunTree.{IsRun, IsRising, answers_to, leaves, leaves_of, tree}
 use Rattle.ptb_explore.specs.Laws.{TreeLaws}
 use Rattle.ptb_explore.proofs.Lists.{IsIn, in_contained, contained_in, in_answers, answers_in, rising_answers}
 use Rattle.ptb_explore.proofs.Order.{before_from_differ}

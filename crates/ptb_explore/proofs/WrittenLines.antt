@@ -14,7 +14,7 @@ use Rattle.ptb_explore.specs.declared.plan.ListingPosition.TheVariants.{AtStart,
 use Rattle.ptb_explore.specs.Beginnings.{Splitting, beginning_line, split_play, stopped}
 use Rattle.ptb_explore.specs.Listing.{fault_after, NextWrites, WritesList, WritesRuns}
 use Rattle.ptb_explore.specs.Plans.{IsPosition, front_at}
-use Rattle.ptb_explore.specs.RunTree.{At, Front, runs_after}
+use Rattle.ptb_machine.specs.RunTree.{At, Front, runs_after}
 use Rattle.ptb_explore.proofs.Progress.{Progress, fewer_left, progress_into, progress_last}
 use Rattle.ptb_explore.proofs.Progress.{progress_more, progress_some}
 use Rattle.ptb_explore.proofs.StoppedPlays.{bounds_within, run_within, stopped_reads}

@@ -15,7 +15,7 @@ use Rattle.ptb_explore.specs.Explorations.{Exploration, play_of, most_of}
 use Rattle.ptb_devices.specs.Screens.{IsScreenFault}
 use Rattle.ptb_explore.specs.Listing.{fault_after, less_one, NextWrites, WritesList, WritesRuns}
 use Rattle.ptb_explore.specs.Report.{report}
-use Rattle.ptb_explore.specs.RunTree.{Front, runs_after}
+use Rattle.ptb_machine.specs.RunTree.{Front, runs_after}
 use Rattle.ptb_explore.proofs.Progress.{Progress, progress_more, progress_whole, progress_last}
 use Rattle.ptb_explore.proofs.Progress.{progress_some, progress_into, fewer_left}
 

@@ -30,7 +30,7 @@ use Rattle.ptb_command.specs.Configuration.{Configuration}
 use Rattle.ptb_machine.specs.Play.{play}
 use Rattle.ptb_explore.specs.declared.copies.KeptCopy.{KeptCopy}
 use Rattle.ptb_explore.specs.PlannedPlays.{IsRunPrefix, limited}
-use Rattle.ptb_explore.specs.RunTree.{IsRun, begins_with}
+use Rattle.ptb_machine.specs.RunTree.{IsRun, begins_with}
 
 -- ---- copies
 

@@ -38,7 +38,7 @@ use Rattle.ptb_explore.specs.Copies.{KeptRun, Agrees, AreCopies, AreBeginnings, 
 use Rattle.ptb_explore.specs.PlannedPlays.{IsRunPrefix}
 use Rattle.ptb_explore.specs.Plans.{IsFresh}
 use Rattle.ptb_explore.specs.Recorders.{recorded, recorder_choices}
-use Rattle.ptb_explore.specs.RunTree.{Front, Start, At, End, IsNextRun, IsLast}
+use Rattle.ptb_machine.specs.RunTree.{Front, Start, At, End, IsNextRun, IsLast}
 
 -- ---- explorers
 

@@ -11,8 +11,8 @@ use Rattle.ptb_answers.specs.declared.form.Form.{Form}
 use Rattle.ptb_machine.specs.Play.{Finish}
 use Rattle.ptb_explore.specs.Listing.{text}
 use Rattle.ptb_explore.specs.Report.{report}
-use Rattle.ptb_explore.specs.RunTree.{Front, Start, At, Before, IsRun, IsRising, answers_to}
-use Rattle.ptb_explore.specs.RunTree.{begins_with, is_after, is_left, runs_after, tree}
+use Rattle.ptb_machine.specs.RunTree.{Front, Start, At, Before, IsRun, IsRising, answers_to}
+use Rattle.ptb_machine.specs.RunTree.{begins_with, is_after, is_left, runs_after, tree}
 
 pub record TreeLaws {A W : Type 0} (play : Answers → Outcome A W) (most : ℕ) : Type 0 where
   -- the tree has the runs and nothing else, in rising order

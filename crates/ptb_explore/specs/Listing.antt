@@ -20,7 +20,7 @@ use Rattle.ptb_explore.specs.declared.fault.ExploreFault.{ExploreFault}
 use Rattle.ptb_explore.specs.declared.fault.ExploreFault.TheVariants.{Memory, Write}
 use Rattle.ptb_text.specs.declared.device_fault.DeviceFault.{DeviceFault}
 use Rattle.ptb_text.specs.declared.device_fault.DeviceFault.TheVariants as next
-use Rattle.ptb_explore.specs.RunTree.{Front, At, End, IsNextRun, IsLast}
+use Rattle.ptb_machine.specs.RunTree.{Front, At, End, IsNextRun, IsLast}
 
 abbrev pub text : (Answers → List ℕ) → List Answers → List ℕ
 text report list = flat_map report list

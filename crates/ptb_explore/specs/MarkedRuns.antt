@@ -7,7 +7,7 @@ use Rattle.std.specs.Ordering.{int_eq}
 use Rattle.ptb_answers.specs.Outcome.{Answers, Outcome, bounds, is_open}
 use Rattle.ptb_answers.specs.declared.form.Marked.{Marked}
 use Rattle.ptb_answers.specs.AnswerText.{answers_of}
-use Rattle.ptb_explore.specs.RunTree.{IsRun}
+use Rattle.ptb_machine.specs.RunTree.{IsRun}
 
 -- where none is stated, any is right
 abbrev pub is_bound : Option ℤ → ℤ → Bool

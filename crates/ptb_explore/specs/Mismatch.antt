@@ -22,7 +22,7 @@ use Rattle.ptb_explore.specs.declared.recorder.Recorder.{Recorder}
 use Rattle.ptb_explore.specs.PlannedPlays.{PlayEnds}
 use Rattle.ptb_explore.specs.Recorders.{recorder_choices}
 use Rattle.ptb_explore.specs.MarkedRuns.{IsMarkedRun, IsMarkedBeginning}
-use Rattle.ptb_explore.specs.RunTree.{begins_with}
+use Rattle.ptb_machine.specs.RunTree.{begins_with}
 
 abbrev pub IsUnder : List Marked → List Marked → Type 0
 IsUnder under list = begins_with (answers_of list) (answers_of under) ≡ true

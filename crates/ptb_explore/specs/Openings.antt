@@ -13,7 +13,7 @@ use Rattle.ptb_explore.specs.declared.mismatch.Mismatch.{Mismatch}
 use Rattle.ptb_explore.specs.Explorations.{IsAdded, IsPlayed}
 use Rattle.ptb_explore.specs.MarkedRuns.{IsMarkedRun}
 use Rattle.ptb_explore.specs.Mismatch.{IsRunMismatch, IsUnder}
-use Rattle.ptb_explore.specs.RunTree.{Front, Start, At, IsNextRun}
+use Rattle.ptb_machine.specs.RunTree.{Front, Start, At, IsNextRun}
 
 abbrev pub first_front : Option (List Marked) → Front
 first_front None = Start

@@ -3,12 +3,11 @@
 --     NextIsOutside play c bound             the plan's next answer is outside the bound of its question
 --     PlayEnds play c bound steps shown ending    the play has this ending; the bound is that of the question where an
 --                                                 answer is outside it
---     run_from p rules S                     what is left of a run from the state S on
 --     limited rules n                        the same rules with the limit n
 --     IsRunPrefix p input rules c shown left m    with what a chooser holds, a run has come to where a machine is
 use Rattle.std.specs.Prelude.{◌≡◌, ℕ, ◌≤◌, List, ◌∷◌, ◌++◌, false, Some, ℤ}
 use Rattle.ptb_text.specs.Statements.{StoredProgram}
-use Rattle.ptb_answers.specs.Outcome.{Answers, Outcome, Done, Asks, Out, bounds, is_answer, map_outcome}
+use Rattle.ptb_answers.specs.Outcome.{Answers, Outcome, Done, Asks, Out, bounds, is_answer}
 use Rattle.ptb_answers.specs.Choices.{Choices}
 use Rattle.ptb_command.specs.declared.ending.Ending.{Ending}
 use Rattle.ptb_command.specs.declared.ending.Ending.TheVariants as endings
@@ -16,7 +15,7 @@ use Rattle.ptb_code.specs.State.{State}
 use Rattle.ptb_command.specs.Configuration.{Configuration}
 use Rattle.ptb_command.specs.Representation.{Represents}
 use Rattle.ptb_answers.specs.declared.rules.Rules.{Rules}
-use Rattle.ptb_machine.specs.Play.{Finish, turns, play}
+use Rattle.ptb_machine.specs.Play.{Finish, play, run_from}
 
 module _ {A W : Type 0} (play : Answers → Outcome A W) where
   -- the bounds of the answers that were taken are kept, and what is left does what play does after them
@@ -43,10 +42,6 @@ PlayEnds play c bound steps shown ending =
     Holds play c (λ later. Done (record { ending = ending; steps = steps; shown = shown }) later)
 
 -- ---- a run that is underway
-
--- what is left of a run from a state on
-abbrev pub run_from : StoredProgram → Rules → State → Answers → Outcome Finish (List ℕ)
-run_from p rules S a = map_outcome (λ f. f) (λ (T : State). T.shown) (turns p rules.limit S a)
 
 abbrev pub limited : Rules → ℕ → Rules
 limited rules n = record rules { limit = n }

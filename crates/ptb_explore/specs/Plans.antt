@@ -25,7 +25,7 @@ use Rattle.ptb_explore.specs.declared.plan.ListingPosition.{ListingPosition}
 use Rattle.ptb_explore.specs.declared.plan.ListingPosition.TheVariants.{AtStart, AtRun, AtEnd}
 use Rattle.ptb_explore.specs.declared.recorder.Recorder.{Recorder}
 use Rattle.ptb_explore.specs.MarkedRuns.{states_bounds}
-use Rattle.ptb_explore.specs.RunTree.{Front, Start, At, End, IsRun, IsNextRun, begins_with}
+use Rattle.ptb_machine.specs.RunTree.{Front, Start, At, End, IsRun, IsNextRun, begins_with}
 
 -- each answer is 1
 abbrev pub AllOnes : Answers → Type 0

@@ -10,13 +10,11 @@ pub use Rattle.ptb_answers.specs.declared.rules.Rules.{Rules}
 pub use Rattle.ptb_machine.specs.Play.{Finish, play}
 pub use Rattle.ptb_machine.specs.Questions.{most_answers}
 pub use Rattle.ptb_machine.specs.Beginnings.{IsAtFirst}
-pub use Rattle.ptb_numbers.specs.Fractions.{Equals}
 pub use Rattle.ptb_text.specs.Device.{HasFailed, TakesSome}
 pub use Rattle.ptb_text.specs.Statements.{StoredProgram}
 pub use Rattle.ptb_explore.specs.Beginnings.{beginning_line, split_play, stopped, FindsBeginning, IsSameSearch, MovesTo}
 pub use Rattle.ptb_explore.specs.Beginnings.{BeginningLaws}
 pub use Rattle.ptb_explore.specs.Begun.{begun, marked_of, marked_items, AreEnds, BeginsWith}
-pub use Rattle.ptb_explore.specs.Chances.{chance_of_all}
 pub use Rattle.ptb_explore.specs.Copies.{Agrees, AreCopies, PlaysOn, kept_runs, AreBeginnings, more_played, play_limit}
 pub use Rattle.ptb_explore.specs.Copies.{WentBack, last_steps}
 pub use Rattle.ptb_explore.specs.Explorations.{AreCopiesAt, HasRunCopies, IsSameGame, NextPlays, game_of, play_of}
@@ -31,8 +29,9 @@ pub use Rattle.ptb_explore.specs.PlannedPlays.{PlayEnds, IsRunPrefix}
 pub use Rattle.ptb_explore.specs.Plans.{PlanEndsWith, IsFresh, IsPosition, front_at, IsTaken, IsTakenAlone, IsLastBelow}
 pub use Rattle.ptb_explore.specs.Plans.{AreAtBounds, HasPlan, PlansNext}
 pub use Rattle.ptb_explore.specs.Recorders.{recorded, recorder_choices}
-pub use Rattle.ptb_explore.specs.Report.{ending_word, report}
-pub use Rattle.ptb_explore.specs.ReportText.{asked_items, field, list_line, report_ending, report_text, text_of_report}
+pub use Rattle.ptb_explore.specs.Report.{report}
+pub use Rattle.ptb_explore.specs.ReportText.{asked_items, list_line, report_ending, report_text, text_of_report}
+pub use Rattle.ptb_machine.specs.EndingWords.{ending_word, field}
 pub use Rattle.ptb_explore.specs.ReportText.{WritesText}
-pub use Rattle.ptb_explore.specs.RunTree.{At, IsLast, Start, runs_left, tree, IsNextRun, IsRun, begins_with}
+pub use Rattle.ptb_machine.specs.RunTree.{At, IsLast, Start, runs_left, tree, IsNextRun, IsRun, begins_with}
 pub use Rattle.ptb_explore.specs.Sampling.{SampleLaws, PlaysDrawn, WritesRun, WritesSample}

@@ -1,27 +1,13 @@
 -- This file defines the reports of runs.
---     ending_word ending                          the word of an ending
 --     report form play answers                the report of the run of these answers, in a form
-use Rattle.std.specs.Prelude.{ℕ, List, [], codes}
+use Rattle.std.specs.Prelude.{ℕ, List, []}
 use Rattle.ptb_answers.specs.Outcome.{Answers, Outcome, Done, Asks, Out, bounds}
-use Rattle.ptb_command.specs.declared.ending.Ending.{Ending}
-use Rattle.ptb_command.specs.declared.ending.Ending.TheVariants as endings
 use Rattle.ptb_machine.specs.Play.{Finish}
+use Rattle.ptb_machine.specs.EndingWords.{ending_word}
 use Rattle.ptb_answers.specs.declared.form.Form.{Form}
 use Rattle.ptb_answers.specs.declared.form.Marked.{Marked}
 use Rattle.ptb_answers.specs.AnswerText.{items_in}
 use Rattle.ptb_explore.specs.ReportText.{report_text}
-
--- a run whose answers are all taken never ends for lack of one, nor with one outside its bound
-abbrev pub ending_word : Ending → List ℕ
-ending_word endings.End = codes "END"
-ending_word endings.Stop = codes "STOP"
-ending_word endings.What = codes "WHAT"
-ending_word endings.How = codes "HOW"
-ending_word endings.Sorry = codes "SORRY"
-ending_word endings.Limit = codes "LIMIT"
-ending_word endings.NoInput = codes "NOINPUT"
-ending_word endings.NoAnswer = []
-ending_word endings.BadAnswer = []
 
 -- what is no run has none
 abbrev pub report_of : List Marked → Outcome Finish (List ℕ) → List ℕ

@@ -17,16 +17,13 @@ use Rattle.ptb_answers.specs.declared.form.Form.{Form}
 use Rattle.ptb_answers.specs.declared.form.Marked.{Marked}
 use Rattle.ptb_answers.specs.Asked.{answers_in, bounds_in}
 use Rattle.ptb_answers.specs.AnswerText.{items_in, spelling}
+use Rattle.ptb_machine.specs.EndingWords.{field}
 use Rattle.ptb_explore.specs.declared.report_text.Parts.{Parts}
 
 -- ---- text
 
 abbrev pub asked_items : Form → List Asked → List Marked
 asked_items form asked = items_in form (answers_in asked) (bounds_in asked)
-
--- one space is before each field
-abbrev pub field : List ℕ → List ℕ
-field bytes = codes " " ++ bytes
 
 abbrev pub header : List Marked → List ℕ → ℕ → ℕ → List ℕ
 header items word steps size = codes "RUN " ++ spelling items ++ field word ++ field (decimal steps)

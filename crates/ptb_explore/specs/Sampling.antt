@@ -19,7 +19,7 @@ use Rattle.ptb_explore.specs.declared.fault.ExploreFault.TheVariants.{Memory, Wr
 use Rattle.ptb_text.specs.declared.device_fault.DeviceFault.{DeviceFault}
 use Rattle.ptb_text.specs.declared.device_fault.DeviceFault.TheVariants as next
 use Rattle.ptb_explore.specs.Listing.{text}
-use Rattle.ptb_explore.specs.RunTree.{IsRun}
+use Rattle.ptb_machine.specs.RunTree.{IsRun}
 
 -- ---- what is written
 

@@ -4,7 +4,7 @@ ghost use Rattle.std.specs.Prelude.{◌≡◌, ◌≤◌, Ok, None, length};
 ghost use Rattle.std.specs.Prelude.{IfOk, IfSome, IfNone};
 ghost use Rattle.ptb_answers.specs.Asked.{answers_in};
 ghost use Rattle.ptb_explore.specs.Explorations.{play_of, most_of, Reports};
-ghost use Rattle.ptb_explore.specs.RunTree.{IsNextRun, IsLast};
+ghost use Rattle.ptb_machine.specs.RunTree.{IsNextRun, IsLast};
 
 use crate::plan::ListingPosition;
 use crate::report::Report;

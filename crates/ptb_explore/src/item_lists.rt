@@ -2,7 +2,7 @@
 
 ghost use Rattle.std.specs.Prelude.{◌≡◌, IfOk};
 ghost use Rattle.ptb_answers.specs.AnswerText.{answers_of, unmarked};
-ghost use Rattle.ptb_explore.specs.RunTree.{begins_with};
+ghost use Rattle.ptb_machine.specs.RunTree.{begins_with};
 
 use ptb_answers::Marked;
 use std::alloc::{AllocError, Global};

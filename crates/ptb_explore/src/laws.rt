@@ -1,8 +1,8 @@
 // This file states that the laws hold of the definitions.
 
-ghost use Rattle.std.specs.Prelude.{ℕ, ◌<◌, List};
+ghost use Rattle.std.specs.Prelude.{ℕ, List};
 ghost use Rattle.ptb_explore.specs.Prelude.{StoredProgram, Answers, Outcome, IsReader, Rules, Finish, play};
-ghost use Rattle.ptb_explore.specs.Prelude.{most_answers, Equals, tree, BeginningLaws, chance_of_all, ListingLaws};
+ghost use Rattle.ptb_explore.specs.Prelude.{most_answers, BeginningLaws, ListingLaws};
 ghost use Rattle.ptb_explore.specs.Prelude.{ReportLaws, ShareLaws, TreeLaws, SampleLaws};
 
 use ptb_machine::run_laws;
@@ -35,14 +35,6 @@ pub fn share_laws<A, W>()
 pub fn beginning_laws<A, W>()
     ensures { (play : Answers → Outcome A W) (most n : ℕ) → IsReader play most
         → BeginningLaws play most n }
-{}
-
-/// The chances of all runs add up to 1. Their sum has a denominator, which is not 0.
-pub fn chance_laws<A, W>()
-    ensures sum { (play : Answers → Outcome A W) (most : ℕ) → IsReader play most
-        → Equals (chance_of_all play (tree play most)) (record { numerator = 1; denominator = 1 }) }
-    ensures positive { (play : Answers → Outcome A W) (most : ℕ) → IsReader play most
-        → 0 < (chance_of_all play (tree play most)).denominator }
 {}
 
 /// Two runs have two different reports, in whatever form, and so the listings of two shares have no

@@ -37,13 +37,13 @@ pub use beginnings::{Beginnings, write_beginnings};
 pub use explorer::Explorer;
 pub use fault::{ExploreFault, OpenFault};
 pub use laws::{
-    beginning_laws, chance_laws, listing_laws, program_laws, report_laws, sample_laws, share_laws,
+    beginning_laws, listing_laws, program_laws, report_laws, sample_laws, share_laws,
     tree_laws,
 };
 pub use listing::write_all_runs;
 pub use mismatch::{Mismatch, mismatch_laws};
 pub use ptb_answers::{Asked, Form, Marked};
-pub use report::{Report, word};
+pub use report::Report;
 pub use report_text::Parts;
 pub use report_writer::ReportWriter;
 pub use sampler::{Sample, write_sample};

@@ -6,7 +6,7 @@ ghost use Rattle.ptb_explore.specs.Prelude.{asked_items, ending_word, report_tex
 use crate::report_text::Parts;
 use crate::report_writer::ReportWriter;
 use ptb_answers::{Asked, Form};
-use ptb_machine::Ending;
+use ptb_machine::{Ending, word};
 use ptb_text::{DeviceFault, Write};
 use std::alloc::Global;
 
@@ -60,21 +60,5 @@ impl Report {
             transcript: &self.transcript,
         };
         reports.write(writer, &parts)
-    }
-}
-
-/// The word of an ending. The two that no report has are empty.
-pub fn word(ending: Ending) -> &'static [u8]
-    ensures { result.now ≡ ending_word ending }
-{
-    match ending {
-        Ending::End => b"END",
-        Ending::Stop => b"STOP",
-        Ending::What => b"WHAT",
-        Ending::How => b"HOW",
-        Ending::Sorry => b"SORRY",
-        Ending::Limit => b"LIMIT",
-        Ending::NoInput => b"NOINPUT",
-        Ending::NoAnswer | Ending::BadAnswer => b"",
     }
 }

@@ -7,11 +7,10 @@ ghost use Rattle.ptb_explore.specs.Prelude.{FailsAfterSome, FailsOnlyAfterSome, 
 ghost use Rattle.ptb_explore.specs.Prelude.{WritesRun, WritesSample};
 
 use crate::fault::{ExploreFault, memory_refusal};
-use crate::report::word;
 use crate::report_text::Parts;
 use crate::report_writer::ReportWriter;
 use ptb_answers::{Form, Seeded};
-use ptb_machine::{Ending, Line, Lines, Machine, Player, Rules, TextScreen, run_laws};
+use ptb_machine::{Ending, Line, Lines, Machine, Player, Rules, TextScreen, run_laws, word};
 use ptb_text::{DeviceFault, Program, Write};
 use std::alloc::{AllocError, Global};
 

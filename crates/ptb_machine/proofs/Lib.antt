@@ -29,3 +29,5 @@ mod Drawing
 mod Drawn
 mod Answering
 mod LinesRun
+mod AnswerBounds
+mod EveryEnding

@@ -3,3 +3,5 @@
 pub use Rattle.ptb_machine.proofs.ProgramCodes.{next_ahead}
 pub use Rattle.ptb_machine.proofs.Playing.{takes_beginning}
 pub use Rattle.ptb_machine.proofs.RunStart.{fits_at_first}
+pub use Rattle.ptb_machine.proofs.AnswerBounds.{bounds-append, is_answer_from, length-bounds}
+pub use Rattle.ptb_machine.proofs.EveryEnding.{every_ending, of_turn}

@@ -7,6 +7,8 @@ pub mod KnownLoops
 pub mod Positions
 pub mod ShortSteps
 pub mod Play
+pub mod RunTree
+pub mod EndingWords
 pub mod Questions
 pub mod Laws
 pub mod EndingLaws

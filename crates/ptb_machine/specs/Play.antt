@@ -1,6 +1,7 @@
 -- This file defines complete runs.
 --     turn p limit S           the next thing that a run does
 --     all_turns p limit S a    the last state of a run, and its ending there
+--     run_from p rules S a     what is left of a run from the state S on
 --     play p input rules a     the result of a run of the program p with the answers a
 --     unasked_lines p input rules a    the lines of the input for which it doesn't ask
 --     stopping_line p input rules a    the number of the statement in which its next command begins where it is over,
@@ -73,6 +74,10 @@ turns p limit S a = map_outcome finish_of (λ T. T) (all_turns p limit S a)
 abbrev pub after_step_result : (State → Answers → Outcome Finish State) → StepResult → Answers → Outcome Finish State
 after_step_result others (Next S) rest = others S rest
 after_step_result others (Over ending S) rest = Done (finish_in ending S) rest
+
+-- what is left of a run from a state on
+abbrev pub run_from : StoredProgram → Rules → State → Answers → Outcome Finish (List ℕ)
+run_from p rules S a = map_outcome (λ f. f) (λ (T : State). T.shown) (turns p rules.limit S a)
 
 -- a question is accompanied by what was shown before it
 unfoldable pub play : StoredProgram → List (List ℕ) → Rules → Answers → Outcome Finish (List ℕ)

@@ -27,6 +27,7 @@ pub use Rattle.ptb_command.specs.declared.registers.Registers.{Registers}
 pub use Rattle.ptb_code.specs.declared.stack.Open.{Open}
 pub use Rattle.ptb_machine.specs.Beginnings.{IsAtFirst}
 pub use Rattle.ptb_machine.specs.CommandResults.{IsCodeOfNext, IsPerformed, MayPerform}
+pub use Rattle.ptb_machine.specs.EndingWords.{ending_word}
 pub use Rattle.ptb_machine.specs.Entries.{after_entry, IsNextAt, BeginsAt, EndsStatement, LeadsTo, Follows, place_of}
 pub use Rattle.ptb_machine.specs.Jumps.{Jumps}
 pub use Rattle.ptb_machine.specs.KnownLoops.{Brings, IsEntryOf, IsKnown, loop_with}

@@ -18,6 +18,7 @@
 #![tactic(auto)]
 
 mod complete_run;
+mod ending_word;
 mod fault;
 mod laws;
 mod machine;
@@ -33,6 +34,7 @@ mod short_forms;
 mod stop_result;
 
 pub use complete_run::{run, run_to_end};
+pub use ending_word::word;
 pub use fault::RunFault;
 pub use laws::{effect_laws, ending_laws, run_laws, seeded_laws};
 pub use machine::Machine;

@@ -8,7 +8,7 @@ use Rattle.ptb_machine.specs.Play.{play}
 use Rattle.ptb_machine.specs.Questions.{most_answers}
 use Rattle.ptb_numbers.specs.Fractions.{Ratio, plus, total, gcd, lowest}
 use Rattle.ptb_numbers.specs.Decimals.{decimals}
-use Rattle.ptb_explore.specs.Chances.{chance, chances}
+use Rattle.ptb_chances.specs.Chances.{chance, chances}
 
 -- the table of a program text on an input; none if the text is refused
 abbrev pub table_of : List ℕ → List ℕ → Rules → Option (List ℕ)

@@ -5,7 +5,7 @@ use Rattle.std.specs.Prelude.{◌≡◌, ℕ, [], ◌∷◌, ◌++◌, codes, fa
 use Rattle.ptb_answers.specs.Outcome.{Answers, is_whole, bounds}
 use Rattle.ptb_rows.specs.ExpressionRows.{worth}
 use Rattle.ptb_explore.specs.Beginnings.{beginnings}
-use Rattle.ptb_explore.specs.RunTree.{At, End, is_before, tree, runs_left}
+use Rattle.ptb_machine.specs.RunTree.{At, End, is_before, tree, runs_left}
 use Rattle.ptb_answers.specs.AnswerText.{answers_of, marked, spelling, unmarked}
 use Rattle.ptb_explore.specs.MarkedRuns.{states_bounds}
 use Rattle.ptb_explore.specs.ReportText.{report_text}

@@ -16,7 +16,7 @@ use Rattle.ptb_explore.specs.declared.mismatch.Mismatch.TheVariants.{OutOfRange,
 use Rattle.ptb_explore.specs.declared.mismatch.Mismatch.TheVariants.{NoQuestion, Missing, NotUnder}
 use Rattle.ptb_explore.specs.Mismatch.{IsItemMismatch}
 use Rattle.ptb_explore.specs.Openings.{IsRefusedRun, IsRunUnder}
-use Rattle.ptb_explore.specs.RunTree.{begins_with}
+use Rattle.ptb_machine.specs.RunTree.{begins_with}
 use Rattle.ptb_serve.specs.declared.note.Note.{Note}
 use Rattle.ptb_serve.specs.declared.note.Note.TheVariants as notes
 use Rattle.ptb_serve.specs.ListMismatches.{IsUnbegun, items_of}

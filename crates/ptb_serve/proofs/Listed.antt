@@ -29,7 +29,7 @@ use Rattle.ptb_explore.specs.Explorations.{Exploration, play_of, most_of}
 use Rattle.ptb_explore.specs.Listing.{text, WritesRuns}
 use Rattle.ptb_explore.specs.Report.{report}
 use Rattle.ptb_explore.specs.Openings.{first_front}
-use Rattle.ptb_explore.specs.RunTree.{Front, runs_left}
+use Rattle.ptb_machine.specs.RunTree.{Front, runs_left}
 use Rattle.ptb_serve.specs.declared.note.Note.{Note}
 use Rattle.ptb_serve.specs.declared.note.Note.TheVariants as notes
 use Rattle.ptb_options.specs.declared.request.Mode.{Mode}

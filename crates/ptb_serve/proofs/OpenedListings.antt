@@ -14,7 +14,7 @@ use Rattle.ptb_explore.specs.Explorations.{Exploration, exploration, play_of}
 use Rattle.ptb_explore.specs.MarkedRuns.{IsMarkedBeginning, IsMarkedRun}
 use Rattle.ptb_explore.specs.Mismatch.{IsItemMismatch, IsRunMismatch}
 use Rattle.ptb_explore.specs.Openings.{first_front}
-use Rattle.ptb_explore.specs.RunTree.{At, Start, begins_with}
+use Rattle.ptb_machine.specs.RunTree.{At, Start, begins_with}
 use Rattle.ptb_explore.specs.declared.fault.OpenFault.{OpenFault}
 use Rattle.ptb_explore.specs.declared.fault.OpenFault.TheVariants.{NoBeginning, NotARun}
 use Rattle.ptb_explore.specs.declared.mismatch.Mismatch.{Mismatch}

@@ -22,7 +22,7 @@ use Rattle.ptb_explore.specs.Sampling.{SampleLaws}
 use Rattle.ptb_answers.specs.Drawn.{sampled_runs}
 use Rattle.ptb_answers.specs.Seeds.{generator_after, generator_of}
 use Rattle.ptb_explore.specs.Openings.{first_front}
-use Rattle.ptb_explore.specs.RunTree.{IsRun, Before, begins_with, is_left, runs_after}
+use Rattle.ptb_machine.specs.RunTree.{IsRun, Before, begins_with, is_left, runs_after}
 use Rattle.ptb_serve.specs.declared.note.Note.{Note}
 use Rattle.ptb_serve.specs.declared.note.Note.TheVariants as notes
 use Rattle.ptb_options.specs.declared.request.Mode.{Mode}

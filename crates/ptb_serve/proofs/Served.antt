@@ -23,7 +23,7 @@ use Rattle.ptb_devices.specs.Sources.{ConsumesAtMost}
 use Rattle.ptb_options.specs.declared.request.Mode.{Mode}
 use Rattle.ptb_options.specs.declared.request.Mode.TheVariants as modes
 use Rattle.ptb_options.specs.declared.request.Request.{Request}
-use Rattle.ptb_explore.proofs.PublicLemmas.{every_ending}
+use Rattle.ptb_machine.proofs.PublicLemmas.{every_ending}
 use Rattle.ptb_serve.specs.declared.note.Note.{Note}
 use Rattle.ptb_serve.specs.declared.note.Note.TheVariants as notes
 use Rattle.ptb_serve.specs.declared.service.Outcome.{Outcome}

@@ -17,13 +17,14 @@ use Rattle.ptb_answers.specs.declared.form.Marked.{Marked}
 use Rattle.ptb_answers.specs.declared.rules.Rules.{Rules}
 use Rattle.ptb_machine.specs.Play.{Finish, play}
 use Rattle.ptb_machine.specs.Questions.{most_answers}
-use Rattle.ptb_explore.proofs.PublicLemmas.{bounds-append, length-bounds, IsIn, in_contained, same_from}
+use Rattle.ptb_explore.proofs.PublicLemmas.{IsIn, in_contained, same_from}
+use Rattle.ptb_machine.proofs.PublicLemmas.{bounds-append, length-bounds}
 use Rattle.ptb_explore.specs.Beginnings.{BeginningLaws, IsBeginning, beginnings}
 use Rattle.ptb_explore.specs.Laws.{ListingLaws, ShareLaws}
 use Rattle.ptb_explore.specs.Listing.{text}
 use Rattle.ptb_explore.specs.MarkedRuns.{IsMarkedBeginning, IsMarkedRun, is_bound, states_bounds}
 use Rattle.ptb_explore.specs.Report.{report}
-use Rattle.ptb_explore.specs.RunTree.{Start, answers_to, is_left, runs_after, tree}
+use Rattle.ptb_machine.specs.RunTree.{Start, answers_to, is_left, runs_after, tree}
 use Rattle.ptb_options.specs.declared.request.Mode.{Mode}
 use Rattle.ptb_options.specs.declared.request.Mode.TheVariants as modes
 use Rattle.ptb_serve.specs.Replies.{Reply, all_reply, shares_reply, reply_with}

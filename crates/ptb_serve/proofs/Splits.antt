@@ -21,7 +21,7 @@ use Rattle.ptb_explore.specs.declared.fault.ExploreFault.{ExploreFault}
 use Rattle.ptb_explore.specs.declared.fault.ExploreFault.TheVariants as explores
 use Rattle.ptb_explore.specs.Listing.{WritesRuns, text}
 use Rattle.ptb_explore.specs.Beginnings.{Splitting, beginning_line, beginnings, split_play, stopped}
-use Rattle.ptb_explore.specs.RunTree.{Front, Start, is_left, runs_left, tree}
+use Rattle.ptb_machine.specs.RunTree.{Front, Start, is_left, runs_left, tree}
 use Rattle.ptb_options.specs.declared.request.Mode.{Mode}
 use Rattle.ptb_options.specs.declared.request.Mode.TheVariants as modes
 use Rattle.ptb_options.specs.declared.request.Request.{Request}

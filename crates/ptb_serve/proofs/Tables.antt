@@ -14,7 +14,7 @@ use Rattle.ptb_devices.specs.Sources.{IsSourceFault}
 use Rattle.ptb_machine.specs.Play.{play}
 use Rattle.ptb_machine.specs.Questions.{most_answers}
 use Rattle.ptb_machine.specs.declared.fault.RunFault.TheVariants as faults
-use Rattle.ptb_explore.specs.Chances.{chances}
+use Rattle.ptb_chances.specs.Chances.{chances}
 use Rattle.ptb_text.specs.declared.device_fault.DeviceFault.TheVariants as tables
 use Rattle.ptb_options.specs.declared.request.Mode.TheVariants as modes
 use Rattle.ptb_options.specs.declared.request.Request.{Request}

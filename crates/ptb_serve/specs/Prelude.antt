@@ -5,7 +5,7 @@ pub use Rattle.ptb_explore.specs.Explorations.{exploration, play_of, most_of}
 pub use Rattle.ptb_explore.specs.Listing.{FailsAfterSome, FailsOnlyAfterSome, WritesRuns}
 pub use Rattle.ptb_explore.specs.Openings.{first_front}
 pub use Rattle.ptb_explore.specs.Report.{report}
-pub use Rattle.ptb_explore.specs.RunTree.{Front, runs_left}
+pub use Rattle.ptb_machine.specs.RunTree.{Front, runs_left}
 pub use Rattle.ptb_machine.specs.Play.{play, status}
 pub use Rattle.ptb_machine.specs.Runs.{ending_alone}
 pub use Rattle.ptb_machine.specs.Streams.{reads_of, writes_of}

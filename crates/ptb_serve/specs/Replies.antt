@@ -18,9 +18,9 @@ use Rattle.ptb_answers.specs.Drawn.{sampled_runs}
 use Rattle.ptb_answers.specs.Seeds.{generator_of}
 use Rattle.ptb_explore.specs.MarkedRuns.{states_bounds}
 use Rattle.ptb_explore.specs.Openings.{first_front}
-use Rattle.ptb_explore.specs.RunTree.{begins_with, runs_left}
+use Rattle.ptb_machine.specs.RunTree.{begins_with, runs_left}
 use Rattle.ptb_explore.specs.Beginnings.{beginning_line, beginnings}
-use Rattle.ptb_explore.specs.Chances.{chances}
+use Rattle.ptb_chances.specs.Chances.{chances}
 use Rattle.ptb_explore.specs.Listing.{text}
 use Rattle.ptb_explore.specs.Report.{report}
 use Rattle.ptb_serve.specs.declared.note.Note.{Note}

@@ -29,14 +29,15 @@ use Rattle.ptb_answers.specs.declared.form.Marked.{Marked}
 use Rattle.ptb_answers.specs.AnswerText.{answers_of, items_in, without_bound}
 use Rattle.ptb_answers.specs.Seeds.{drawn_answers}
 use Rattle.ptb_explore.specs.Beginnings.{IsBeginning, beginning_line}
-use Rattle.ptb_explore.specs.Chances.{table, table_text}
+use Rattle.ptb_chances.specs.Chances.{table, table_text}
 use Rattle.ptb_explore.specs.Laws.{ReportLaws, TreeLaws}
 use Rattle.ptb_explore.specs.Listing.{text}
 use Rattle.ptb_explore.specs.MarkedRuns.{IsMarkedBeginning, IsMarkedRun}
 use Rattle.ptb_explore.specs.ReportText.{report_text}
-use Rattle.ptb_explore.specs.Report.{report, ending_word}
+use Rattle.ptb_explore.specs.Report.{report}
+use Rattle.ptb_machine.specs.EndingWords.{ending_word}
 use Rattle.ptb_explore.specs.Sampling.{concatenated}
-use Rattle.ptb_explore.specs.RunTree.{IsRun, Before, IsRising, answers_to, begins_with, tree}
+use Rattle.ptb_machine.specs.RunTree.{IsRun, Before, IsRising, answers_to, begins_with, tree}
 use Rattle.ptb_serve.specs.declared.note.Note.TheVariants as notes
 use Rattle.ptb_options.specs.declared.request.Mode.{Mode}
 use Rattle.ptb_options.specs.declared.request.Mode.TheVariants as modes

@@ -6,8 +6,8 @@ use crate::tests::shared::{
     plain_rules, table,
 };
 use crate::tests::writing::{Source, Writing, Written, source_of};
-use ptb_explore::{Form, Marked, OpenFault, word};
-use ptb_machine::Ending;
+use ptb_explore::{Form, Marked, OpenFault};
+use ptb_machine::{Ending, word};
 use ptb_text::Program;
 use std::alloc::{AllocError, Global};
 use std::test::Fail;

@@ -2,8 +2,8 @@
 use Rattle.std.proofs.Common.{ap, ◌∙◌}
 use Rattle.ptb_machine.specs.Play.{play}
 use Rattle.ptb_machine.specs.Questions.{most_answers}
-use Rattle.ptb_explore.specs.Chances.{table_text}
-use Rattle.ptb_explore.specs.RunTree.{tree}
+use Rattle.ptb_chances.specs.Chances.{table_text}
+use Rattle.ptb_machine.specs.RunTree.{tree}
 use Rattle.ptb_chances.proofs.PassedOn.{if_ok}
 use Rattle.ptb_chances.proofs.Positive.{all_positive}
 use Rattle.ptb_chances.proofs.Tables.{table_is}

@@ -1,6 +1,6 @@
 -- This file answers that the last line is found.
 use Rattle.std.proofs.Common.{◌∷◌, ap, sym, ◌∙◌}
-use Rattle.ptb_explore.specs.Chances.{last_line}
+use Rattle.ptb_chances.specs.Chances.{last_line}
 use Rattle.ptb_text.specs.Lines.{lines}
 use Rattle.ptb_chances.proofs.LastLines.{last_after_empty}
 use Rattle.ptb_chances.proofs.last_line.last_line.Goals as goal

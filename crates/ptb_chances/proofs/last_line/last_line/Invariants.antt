@@ -1,6 +1,6 @@
 -- This file says that the last line is that of what is left, after the one that was read last.
 use Rattle.std.proofs.Common.{◌≡◌, ◌∷◌, length}
-use Rattle.ptb_explore.specs.Chances.{last_line}
+use Rattle.ptb_chances.specs.Chances.{last_line}
 use Rattle.ptb_text.specs.Lines.{lines}
 use Rattle.ptb_chances.proofs.last_line.last_line.Given as goal
 

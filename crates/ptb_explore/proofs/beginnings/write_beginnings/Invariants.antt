@@ -1,7 +1,7 @@
 -- This file says what was written after some of the lines.
 use Rattle.std.proofs.Common.{◌≡◌, length, [], None}
 use Rattle.ptb_explore.specs.Beginnings.{beginning_line, split_play}
-use Rattle.ptb_explore.specs.RunTree.{runs_after, runs_left}
+use Rattle.ptb_machine.specs.RunTree.{runs_after, runs_left}
 use Rattle.ptb_explore.proofs.WrittenLines.{game_of}
 use Rattle.ptb_explore.proofs.Progress.{Progress}
 use Rattle.ptb_explore.proofs.beginnings.write_beginnings.Given as goal

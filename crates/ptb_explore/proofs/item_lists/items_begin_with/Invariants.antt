@@ -1,7 +1,7 @@
 -- This file says that what is left of the lists decides.
 use Rattle.std.proofs.Common.{◌≡◌, drop}
 use Rattle.ptb_answers.specs.AnswerText.{answers_of}
-use Rattle.ptb_explore.specs.RunTree.{begins_with}
+use Rattle.ptb_machine.specs.RunTree.{begins_with}
 use Rattle.ptb_explore.proofs.item_lists.items_begin_with.Given as goal
 
 abbrev pub invariant-loop-k : goal.invariant-loop-k

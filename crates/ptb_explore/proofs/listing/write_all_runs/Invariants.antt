@@ -1,6 +1,6 @@
 -- This file says what was written after some of the reports.
 use Rattle.std.proofs.Common.{◌≡◌, ◌≤◌, length}
-use Rattle.ptb_explore.specs.RunTree.{runs_left, runs_after}
+use Rattle.ptb_machine.specs.RunTree.{runs_left, runs_after}
 use Rattle.ptb_explore.specs.Report.{report}
 use Rattle.ptb_explore.specs.Explorations.{play_of, most_of}
 use Rattle.ptb_explore.proofs.Progress.{Progress}

@@ -1,6 +1,6 @@
 -- This file answers that a row was added.
 use Rattle.std.proofs.Common.{List, subst}
-use Rattle.ptb_explore.specs.Chances.{Row}
+use Rattle.ptb_chances.specs.Chances.{Row}
 use Rattle.ptb_chances.specs.Accounts.{AddsRow}
 use Rattle.ptb_chances.specs.Keys.{key_result, rows_of}
 use Rattle.ptb_chances.proofs.Tallies.{added}

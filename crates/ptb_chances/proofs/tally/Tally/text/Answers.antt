@@ -1,6 +1,6 @@
 -- This file answers that the rows rise.
 use Rattle.std.proofs.Common.{subst, List}
-use Rattle.ptb_explore.specs.Chances.{Row}
+use Rattle.ptb_chances.specs.Chances.{Row}
 use Rattle.ptb_chances.specs.Accounts.{ResultsRise}
 use Rattle.ptb_chances.proofs.Texts.{rows_rise}
 use Rattle.ptb_chances.proofs.tally.Tally.text.Goals as goal

@@ -1,6 +1,6 @@
 -- This file says that what is written and the rows that are left are the whole table.
 use Rattle.std.proofs.Common.{◌≡◌, ◌++◌, map}
-use Rattle.ptb_explore.specs.Chances.{table_text}
+use Rattle.ptb_chances.specs.Chances.{table_text}
 use Rattle.ptb_chances.specs.Accounts.{reduced}
 use Rattle.ptb_chances.specs.Keys.{rows_of}
 use Rattle.ptb_chances.proofs.tally.Tally.text.Given as goal

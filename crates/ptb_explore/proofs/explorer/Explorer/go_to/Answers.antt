@@ -9,7 +9,7 @@ use Rattle.ptb_explore.specs.Copies.{kept_runs}
 use Rattle.ptb_explore.specs.Plans.{front_at}
 use Rattle.ptb_explore.specs.MarkedRuns.{IsMarkedRun}
 use Rattle.ptb_explore.specs.Mismatch.{IsRunMismatch}
-use Rattle.ptb_explore.specs.RunTree.{At, begins_with}
+use Rattle.ptb_machine.specs.RunTree.{At, begins_with}
 use Rattle.ptb_explore.proofs.Exits.{ok_no_err, passed_on}
 use Rattle.ptb_explore.proofs.Mismatches.{alone_is_under, run_closes}
 use Rattle.ptb_explore.proofs.Opened.{at_run, gone_kept, gone_view}

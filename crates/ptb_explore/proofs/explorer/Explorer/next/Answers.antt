@@ -9,7 +9,7 @@ use Rattle.ptb_explore.specs.Copies.{KeptRun, kept_runs}
 use Rattle.ptb_explore.specs.Explorations.{Exploration, FoundNext, NextPlays, RefusedNext}
 use Rattle.ptb_explore.specs.Explorations.{exploration, game_of, play_of, played_after}
 use Rattle.ptb_explore.specs.Plans.{front_at}
-use Rattle.ptb_explore.specs.RunTree.{At, Front, IsLast}
+use Rattle.ptb_machine.specs.RunTree.{At, Front, IsLast}
 use Rattle.ptb_explore.proofs.Exits.{err_no_ok}
 use Rattle.ptb_explore.proofs.ContinuedCopies.{none_at}
 use Rattle.ptb_explore.proofs.Keep.{kept_beginnings}

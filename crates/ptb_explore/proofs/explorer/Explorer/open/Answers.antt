@@ -8,7 +8,7 @@ use Rattle.ptb_machine.specs.Play.{Finish, play}
 use Rattle.ptb_machine.specs.Questions.{most_answers}
 use Rattle.ptb_explore.specs.Explorations.{IsAdded, game_of}
 use Rattle.ptb_explore.specs.MarkedRuns.{IsMarkedRun}
-use Rattle.ptb_explore.specs.RunTree.{begins_with}
+use Rattle.ptb_machine.specs.RunTree.{begins_with}
 use Rattle.ptb_explore.proofs.Exits.{on_ok_always, passed_on}
 use Rattle.ptb_explore.proofs.Mismatches.{mismatch_closes}
 use Rattle.ptb_explore.proofs.Opened.{IsBefore, before_all, before_begun, before_game, before_opens, misfit_opened}

@@ -8,7 +8,7 @@ use Rattle.ptb_explore.specs.Recorders.{given_bounds, recorded}
 use Rattle.ptb_explore.specs.Copies.{more_played, play_limit}
 use Rattle.ptb_explore.specs.Explorations.{game_of}
 use Rattle.ptb_explore.specs.Mismatch.{IsItemMismatch}
-use Rattle.ptb_explore.specs.RunTree.{Start, IsNextRun}
+use Rattle.ptb_machine.specs.RunTree.{Start, IsNextRun}
 use Rattle.ptb_explore.proofs.BegunRuns.{list_opens, begun_stated}
 use Rattle.ptb_explore.proofs.Exits.{same_misfit}
 use Rattle.ptb_explore.proofs.Mismatches.{answers_length, if_none_at, if_some_at}

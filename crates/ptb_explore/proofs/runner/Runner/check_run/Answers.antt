@@ -10,7 +10,7 @@ use Rattle.ptb_explore.specs.Explorations.{game_of}
 use Rattle.ptb_explore.specs.MarkedRuns.{states_bounds}
 use Rattle.ptb_explore.specs.Mismatch.{IsRunMismatch}
 use Rattle.ptb_explore.specs.Recorders.{recorder_choices, given_bounds, recorded}
-use Rattle.ptb_explore.specs.RunTree.{IsRun}
+use Rattle.ptb_machine.specs.RunTree.{IsRun}
 use Rattle.ptb_explore.proofs.Exits.{ok_no_err, same_reason}
 use Rattle.ptb_explore.proofs.Keep.{kept_same}
 use Rattle.ptb_explore.proofs.Mismatches.{answers_length, if_none_at, if_some_at}

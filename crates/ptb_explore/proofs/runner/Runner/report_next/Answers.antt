@@ -6,7 +6,7 @@ use Rattle.ptb_machine.specs.Play.{play}
 use Rattle.ptb_machine.specs.Questions.{most_answers}
 use Rattle.ptb_answers.specs.Asked.{answers_in, bounds_in}
 use Rattle.ptb_explore.specs.Recorders.{recorded}
-use Rattle.ptb_explore.specs.RunTree.{IsLast}
+use Rattle.ptb_machine.specs.RunTree.{IsLast}
 use Rattle.ptb_explore.specs.Plans.{front_at, HasPlan, IsPlan, PlansNext}
 use Rattle.ptb_explore.proofs.WrittenTexts.{on_err_always}
 use Rattle.ptb_explore.proofs.Exits.{on_some_at}

@@ -10,10 +10,10 @@ use Rattle.std.proofs.lemmas.Int.{ints}
 use Rattle.ptb_numbers.specs.Fractions.{Ratio, plus, Equals}
 use Rattle.ptb_answers.specs.Outcome.{Answers, Outcome, Done, Asks, IsReader, is_open, is_answer, bound_of, bounds}
 use Rattle.ptb_answers.proofs.PublicLemmas.{open_is}
-use Rattle.ptb_explore.specs.RunTree.{answers_to, leaves, leaves_of, tree}
-use Rattle.ptb_explore.specs.Chances.{answer_count, bound_product, chance, chance_of_all}
-use Rattle.ptb_explore.proofs.Bounds.{bounds-append}
-use Rattle.ptb_explore.proofs.Lists.{is_answer_from}
+use Rattle.ptb_machine.specs.RunTree.{answers_to, leaves, leaves_of, tree}
+use Rattle.ptb_chances.specs.Chances.{answer_count, bound_product, chance, chance_of_all}
+use Rattle.ptb_machine.proofs.PublicLemmas.{bounds-append}
+use Rattle.ptb_machine.proofs.PublicLemmas.{is_answer_from}
 
 -- ---- sums of fractions
 

@@ -19,9 +19,9 @@ use Rattle.ptb_answers.specs.Outcome.{Answers, Outcome, Done, Asks, Out, bounds}
 use Rattle.ptb_command.specs.declared.ending.Ending.{Ending}
 use Rattle.ptb_command.specs.declared.ending.Ending.TheVariants as endings
 use Rattle.ptb_machine.specs.Play.{Finish}
-use Rattle.ptb_explore.specs.ReportText.{field}
-use Rattle.ptb_explore.specs.RunTree.{tree}
-use Rattle.ptb_explore.specs.Report.{ending_word}
+use Rattle.ptb_machine.specs.EndingWords.{field}
+use Rattle.ptb_machine.specs.RunTree.{tree}
+use Rattle.ptb_machine.specs.EndingWords.{ending_word}
 
 -- ---- what a run results in
 
