@@ -2,8 +2,8 @@
 //! how it ended, and what it showed.
 //!
 //! It depends on `ptb_machine`, on definitions of `ptb_command`, `ptb_code` and `ptb_devices`, on
-//! `ptb_numbers`, `ptb_answers`, `ptb_text`, `arrayvec`, `itoa` and `thiserror`, and on a
-//! definition of `rand_pcg`. The crate above may rely on `Explorer::start`, `after` and
+//! `ptb_answers`, `ptb_text`, `arrayvec`, `itoa` and `thiserror`, and on a definition of `rand_pcg`.
+//! The crate above may rely on `Explorer::start`, `after` and
 //! `after_marked` (where a listing begins, or why the answers are no run), on `under` (the same for
 //! the runs that begin with a list of answers), on `go_to` (the run to which an explorer moves), on
 //! `write_all_runs` (the reports of the runs that are left), on `Beginnings::start` and
@@ -37,8 +37,7 @@ pub use beginnings::{Beginnings, write_beginnings};
 pub use explorer::Explorer;
 pub use fault::{ExploreFault, OpenFault};
 pub use laws::{
-    beginning_laws, listing_laws, program_laws, report_laws, sample_laws, share_laws,
-    tree_laws,
+    beginning_laws, listing_laws, program_laws, report_laws, sample_laws, share_laws, tree_laws,
 };
 pub use listing::write_all_runs;
 pub use mismatch::{Mismatch, mismatch_laws};
