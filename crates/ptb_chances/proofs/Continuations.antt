@@ -7,7 +7,7 @@ use Rattle.ptb_answers.specs.Outcome.{Answers, is_open}
 use Rattle.ptb_answers.specs.declared.rules.Rules.{Rules}
 use Rattle.ptb_command.specs.declared.ending.Ending.{Ending}
 use Rattle.ptb_command.specs.Configuration.{Configuration}
-use Rattle.ptb_code.specs.State.{State}
+use Rattle.ptb_command.specs.State.{State}
 use Rattle.ptb_machine.specs.Laws.{RunLaws}
 use Rattle.ptb_machine.specs.Steps.{PlainTurns}
 use Rattle.ptb_machine.specs.Play.{run_from}

@@ -15,7 +15,7 @@ use Rattle.ptb_command.specs.declared.ending.Ending.{Ending}
 use Rattle.ptb_command.specs.declared.ending.Ending.TheVariants as endings
 use Rattle.ptb_machine.specs.declared.fault.RunFault.{RunFault}
 use Rattle.ptb_machine.specs.declared.fault.RunFault.TheVariants as faults
-use Rattle.ptb_code.specs.State.{State}
+use Rattle.ptb_command.specs.State.{State}
 use Rattle.ptb_command.specs.Act.{StepResult, Over}
 use Rattle.ptb_machine.specs.Play.{Finish, finish_in, turn, after_step_result, turns}
 use Rattle.ptb_machine.specs.Laws.{RunLaws}

@@ -14,7 +14,7 @@ use Rattle.ptb_answers.specs.declared.rules.Rules.{Rules}
 use Rattle.ptb_command.specs.declared.ending.Ending.{Ending}
 use Rattle.ptb_command.specs.Configuration.{Configuration}
 use Rattle.ptb_command.specs.Representation.{Represents}
-use Rattle.ptb_code.specs.State.{State, first_state}
+use Rattle.ptb_command.specs.State.{State, first_state}
 use Rattle.ptb_machine.specs.Play.{Finish, play}
 use Rattle.ptb_chances.specs.Chances.{Row, RunResult, answer_count, bound_product, chance_of_all}
 use Rattle.ptb_chances.specs.Chances.{last_line, result_of, result_order, runs_with}

@@ -18,7 +18,7 @@ use Rattle.ptb_command.specs.declared.ending.Ending.{Ending}
 use Rattle.ptb_command.specs.declared.ending.Ending.TheVariants as endings
 use Rattle.ptb_command.specs.Configuration.{Configuration}
 use Rattle.ptb_command.specs.Representation.{Represents}
-use Rattle.ptb_code.specs.State.{State}
+use Rattle.ptb_command.specs.State.{State}
 use Rattle.ptb_machine.specs.Play.{Finish}
 use Rattle.ptb_chances.specs.Chances.{last_line}
 use Rattle.ptb_machine.specs.Play.{run_from}

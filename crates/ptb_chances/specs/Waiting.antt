@@ -19,7 +19,7 @@ use Rattle.ptb_text.specs.Statements.{StoredProgram}
 use Rattle.ptb_answers.specs.Outcome.{Answers, bounds, is_open}
 use Rattle.ptb_answers.specs.declared.rules.Rules.{Rules}
 use Rattle.ptb_command.specs.Configuration.{Configuration}
-use Rattle.ptb_code.specs.State.{State}
+use Rattle.ptb_command.specs.State.{State}
 use Rattle.ptb_machine.specs.Play.{play}
 use Rattle.ptb_chances.specs.Chances.{Row, answer_count, bound_product, chance_of_all}
 use Rattle.ptb_machine.specs.Play.{run_from}

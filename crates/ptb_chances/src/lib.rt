@@ -1,7 +1,7 @@
 //! The exact chance of each result of a program's runs.
 //!
 //! It depends on `ptb_machine` for the runs, on `ptb_numbers` for numbers of any size, on
-//! `ptb_answers` and `ptb_text`, and on definitions of `ptb_command`, `ptb_code` and `ptb_devices`.
+//! `ptb_answers` and `ptb_text`, and on definitions of `ptb_command` and `ptb_devices`.
 //! The crate above may rely on `chances_text` and `write_chances` (the text of the table), on
 //! `chance_laws` and on `table_laws`. What watches how far a table is counted implements `Watch`.
 #![tactic(auto)]

@@ -2,7 +2,7 @@
 
 ghost use Rattle.std.specs.Prelude.{◌≡◌, ◌-◌, ◌<◌, ◌≤◌, ℕ, false, true, drop, length, take, IfOk};
 ghost use Rattle.ptb_answers.specs.Outcome.{is_open};
-ghost use Rattle.ptb_code.specs.State.{State};
+ghost use Rattle.ptb_command.specs.State.{State};
 ghost use Rattle.ptb_machine.specs.Play.{run_from};
 ghost use Rattle.ptb_chances.specs.Standing.{played_of, PlaysTo, IsStageAt};
 

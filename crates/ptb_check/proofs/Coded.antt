@@ -12,15 +12,15 @@ use Rattle.ptb_expr.specs.Reading.{Reading, Whole, Malformed}
 use Rattle.ptb_expr.specs.Translation.{HasNoValue}
 use Rattle.ptb_expr.specs.Tree.{Tree}
 use Rattle.ptb_expr.specs.Written.{written_fault}
-use Rattle.ptb_code.specs.declared.operation.Operation.{Operation}
-use Rattle.ptb_code.specs.declared.operation.Operation.TheVariants as operations
-use Rattle.ptb_code.specs.declared.operation.Expression.{Expression}
-use Rattle.ptb_code.specs.declared.operation.Destination.{Destination}
-use Rattle.ptb_code.specs.declared.operation.Destination.TheVariants as destinations
-use Rattle.ptb_code.specs.Code.{Code, AreStepsAt, IsDestination, NamesOne, IsPart, IsOf}
-use Rattle.ptb_code.specs.Code.{IsCodeOf, without_letter, without_its_letter}
-use Rattle.ptb_code.specs.Commands.{Part, Assign, Width, Show, NewLine, Letter, Operand, parts_of, command_of}
-use Rattle.ptb_code.specs.Items.{in_front}
+use Rattle.ptb_command.specs.declared.operation.Operation.{Operation}
+use Rattle.ptb_command.specs.declared.operation.Operation.TheVariants as operations
+use Rattle.ptb_command.specs.declared.operation.Expression.{Expression}
+use Rattle.ptb_command.specs.declared.operation.Destination.{Destination}
+use Rattle.ptb_command.specs.declared.operation.Destination.TheVariants as destinations
+use Rattle.ptb_command.specs.Code.{Code, AreStepsAt, IsDestination, NamesOne, IsPart, IsOf}
+use Rattle.ptb_command.specs.Code.{IsCodeOf, without_letter, without_its_letter}
+use Rattle.ptb_command.specs.Commands.{Part, Assign, Width, Show, NewLine, Letter, Operand, parts_of, command_of}
+use Rattle.ptb_command.specs.Items.{in_front}
 use Rattle.ptb_check.specs.CodeMistakes.{expression_fail, destination_fail, code_mistake}
 use Rattle.ptb_check.specs.Mistakes.{part_fault, parts_fault, part_number, last_number, jump_number}
 use Rattle.ptb_check.specs.Mistakes.{jump_mistake, parts_mistake, command_mistake}

@@ -16,8 +16,8 @@ use Rattle.ptb_command.specs.declared.ending.Ending.TheVariants as endings
 use Rattle.ptb_command.specs.Actions.{Faults, Ends, Progress, Goes, Halts, Action, on_progress}
 use Rattle.ptb_command.specs.Act.{fails, is_full, if_not_full, goto_action, gosub_action, return_action}
 use Rattle.ptb_command.specs.Act.{without_loop, with_loop, with_call, loops_from, next_action}
-use Rattle.ptb_code.specs.State.{statement, Place, Loop, Call, State, next_index, next_command, text_of, first_state}
-use Rattle.ptb_code.specs.Commands.{letter_of, Command}
+use Rattle.ptb_command.specs.State.{statement, Place, Loop, Call, State, next_index, next_command, text_of, first_state}
+use Rattle.ptb_command.specs.Commands.{letter_of, Command}
 use Rattle.ptb_command.specs.Act.{operand, finish, end_of, first_width}
 use Rattle.ptb_command.specs.Act.{parts_action, command_action, StepResult, Next, Over}
 use Rattle.ptb_command.specs.Act.{step_result_of, ending_of, with_step, act}

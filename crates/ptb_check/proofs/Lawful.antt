@@ -1,7 +1,7 @@
 -- This file has the laws of mistakes as the contracts name them.
 -- Main lemmas: `check_laws` and `code_mistake_laws`.
 use Rattle.ptb_expr.specs.Spells.{SpellingLaws}
-use Rattle.ptb_code.specs.CommandLaws.{CommandLaws}
+use Rattle.ptb_command.specs.CommandLaws.{CommandLaws}
 use Rattle.ptb_machine.specs.Laws.{EffectLaws}
 use Rattle.ptb_check.specs.Laws.{end_state, CheckLaws, CodeMistakeLaws}
 use Rattle.ptb_check.proofs.Coded.{code_is_mistake}

@@ -13,16 +13,16 @@ use Rattle.ptb_expr.specs.Reading.{Reading, Whole, Malformed, after, map_reading
 use Rattle.ptb_expr.specs.Spells.{SpellingLaws}
 use Rattle.ptb_expr.specs.Tree.{Tree, Num, Var, Bad}
 use Rattle.ptb_expr.specs.Value.{fault}
-use Rattle.ptb_code.specs.Commands.{Part, Assign, Width, Show, NewLine, Take, Letter, Operand}
-use Rattle.ptb_code.specs.Commands.{command_ends, defect, end_check, over_check, part_and, after_part}
-use Rattle.ptb_code.specs.Commands.{comma_round, value_part, assignment, string_at}
-use Rattle.ptb_code.specs.Commands.{string_or_value, width_or, print_item, next_item, after_item}
-use Rattle.ptb_code.specs.Commands.{item_round, print_parts_if, print_parts, variable_begins}
-use Rattle.ptb_code.specs.Commands.{variable_item, string_item, input_item_by, input_item}
-use Rattle.ptb_code.specs.Commands.{step_by, step_parts, limit_by, limit_parts, first_parts}
-use Rattle.ptb_code.specs.Commands.{for_by, for_parts, next_by, next_parts, parts_of}
-use Rattle.ptb_code.specs.Items.{Round, Last, Onward, in_front, with_others, items_within, items, Advances}
-use Rattle.ptb_code.specs.CommandLaws.{CommandLaws}
+use Rattle.ptb_command.specs.Commands.{Part, Assign, Width, Show, NewLine, Take, Letter, Operand}
+use Rattle.ptb_command.specs.Commands.{command_ends, defect, end_check, over_check, part_and, after_part}
+use Rattle.ptb_command.specs.Commands.{comma_round, value_part, assignment, string_at}
+use Rattle.ptb_command.specs.Commands.{string_or_value, width_or, print_item, next_item, after_item}
+use Rattle.ptb_command.specs.Commands.{item_round, print_parts_if, print_parts, variable_begins}
+use Rattle.ptb_command.specs.Commands.{variable_item, string_item, input_item_by, input_item}
+use Rattle.ptb_command.specs.Commands.{step_by, step_parts, limit_by, limit_parts, first_parts}
+use Rattle.ptb_command.specs.Commands.{for_by, for_parts, next_by, next_parts, parts_of}
+use Rattle.ptb_command.specs.Items.{Round, Last, Onward, in_front, with_others, items_within, items, Advances}
+use Rattle.ptb_command.specs.CommandLaws.{CommandLaws}
 use Rattle.ptb_check.specs.Mistakes.{part_fault, parts_fault}
 use Rattle.ptb_expr.specs.Written.{written_fault}
 use Rattle.ptb_check.proofs.Readings.{Tells, some_first, some_second, none_both, expression_tells, variable_tells}

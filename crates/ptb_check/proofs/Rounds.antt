@@ -7,11 +7,11 @@ use Rattle.std.specs.Prelude.{flat_map, slice_get, unsigned_abs}
 use Rattle.ptb_text.specs.Words.{is_over}
 use Rattle.ptb_text.specs.Statements.{Statements}
 use Rattle.ptb_expr.specs.Reading.{Reading, Whole, Malformed}
-use Rattle.ptb_code.specs.Commands.{Part, Command, after_command, command_and, command_at}
-use Rattle.ptb_code.specs.Commands.{command_round, command_unless, commands_from, next_begin}
-use Rattle.ptb_code.specs.CommandLaws.{CommandLaws}
-use Rattle.ptb_code.specs.Places.{commands_after, next_place}
-use Rattle.ptb_code.specs.Locations.{IsLineAt}
+use Rattle.ptb_command.specs.Commands.{Part, Command, after_command, command_and, command_at}
+use Rattle.ptb_command.specs.Commands.{command_round, command_unless, commands_from, next_begin}
+use Rattle.ptb_command.specs.CommandLaws.{CommandLaws}
+use Rattle.ptb_command.specs.Places.{commands_after, next_place}
+use Rattle.ptb_command.specs.Locations.{IsLineAt}
 use Rattle.ptb_check.specs.Mistakes.{Mistake, command_mistake, mistake_in, statement_mistakes}
 
 -- ---- the commands of a statement

@@ -16,11 +16,11 @@ use Rattle.ptb_text.specs.Statements.{Statements, text_at}
 use Rattle.ptb_expr.specs.declared.fault.Fault.{Fault}
 use Rattle.ptb_expr.specs.Reading.{Reading, Whole, Malformed, item_of}
 use Rattle.ptb_expr.specs.Spells.{SpellingLaws}
-use Rattle.ptb_code.specs.Commands.{Part, Command, command_by, command_at, commands, commands_from, command_round}
-use Rattle.ptb_code.specs.Items.{items, items_within}
-use Rattle.ptb_code.specs.CommandLaws.{CommandLaws}
-use Rattle.ptb_code.specs.State.{Place, command_there, text_of, next_command, command_or_next}
-use Rattle.ptb_code.specs.State.{first_command, placed_at, place_after}
+use Rattle.ptb_command.specs.Commands.{Part, Command, command_by, command_at, commands, commands_from, command_round}
+use Rattle.ptb_command.specs.Items.{items, items_within}
+use Rattle.ptb_command.specs.CommandLaws.{CommandLaws}
+use Rattle.ptb_command.specs.State.{Place, command_there, text_of, next_command, command_or_next}
+use Rattle.ptb_command.specs.State.{first_command, placed_at, place_after}
 use Rattle.ptb_check.specs.Laws.{IsAmong, IsMistakeOf, IsReported}
 use Rattle.ptb_check.specs.Mistakes.{Mistake, parts_fault, command_mistake, mistake_in, statement_mistakes, mistakes}
 use Rattle.ptb_check.proofs.Parts.{parts_tell}

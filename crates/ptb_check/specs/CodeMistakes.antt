@@ -8,12 +8,12 @@ use Rattle.ptb_expr.specs.declared.fault.Fault.{Fault}
 use Rattle.ptb_expr.specs.declared.step.Step.{Step}
 use Rattle.ptb_expr.specs.Value.{fault}
 use Rattle.ptb_expr.specs.Written.{first_fail, only_number}
-use Rattle.ptb_code.specs.declared.operation.Operation.{Operation}
-use Rattle.ptb_code.specs.declared.operation.Operation.TheVariants as operations
-use Rattle.ptb_code.specs.declared.operation.Expression.{Expression}
-use Rattle.ptb_code.specs.declared.operation.Destination.{Destination}
-use Rattle.ptb_code.specs.declared.operation.Destination.TheVariants as destinations
-use Rattle.ptb_code.specs.Code.{steps_at}
+use Rattle.ptb_command.specs.declared.operation.Operation.{Operation}
+use Rattle.ptb_command.specs.declared.operation.Operation.TheVariants as operations
+use Rattle.ptb_command.specs.declared.operation.Expression.{Expression}
+use Rattle.ptb_command.specs.declared.operation.Destination.{Destination}
+use Rattle.ptb_command.specs.declared.operation.Destination.TheVariants as destinations
+use Rattle.ptb_command.specs.Code.{steps_at}
 use Rattle.ptb_check.specs.Mistakes.{jump_mistake}
 
 abbrev pub expression_fail : List Step → Expression → Option Fault

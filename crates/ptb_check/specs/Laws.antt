@@ -12,9 +12,9 @@ use Rattle.ptb_expr.specs.declared.fault.Fault.{Fault}
 use Rattle.ptb_expr.specs.declared.fault.FaultKind.{FaultKind}
 use Rattle.ptb_expr.specs.Reading.{Whole, item_of}
 use Rattle.ptb_command.specs.Act.{ending_of}
-use Rattle.ptb_code.specs.Code.{Code, IsCodeOf}
-use Rattle.ptb_code.specs.Commands.{Command, command_of, parts_of}
-use Rattle.ptb_code.specs.State.{Place, State, first_state, next_command, command_there, text_of}
+use Rattle.ptb_command.specs.Code.{Code, IsCodeOf}
+use Rattle.ptb_command.specs.Commands.{Command, command_of, parts_of}
+use Rattle.ptb_command.specs.State.{Place, State, first_state, next_command, command_there, text_of}
 use Rattle.ptb_machine.specs.Play.{all_turns, Finish, play, last_state}
 use Rattle.ptb_check.specs.CodeMistakes.{code_mistake}
 use Rattle.ptb_check.specs.Mistakes.{command_mistake, mistakes}

@@ -2,9 +2,9 @@
 pub use Rattle.std.specs.Io.KnownBytes.{Appends}
 pub use Rattle.ptb_expr.specs.Written.{first_fail, only_number}
 pub use Rattle.ptb_command.specs.Act.{newline, report_bytes}
-pub use Rattle.ptb_code.specs.Code.{steps_at}
-pub use Rattle.ptb_code.specs.Commands.{command_at, commands_from}
-pub use Rattle.ptb_code.specs.Translation.{IsTranslated}
+pub use Rattle.ptb_command.specs.Code.{steps_at}
+pub use Rattle.ptb_command.specs.Commands.{command_at, commands_from}
+pub use Rattle.ptb_command.specs.Translation.{IsTranslated}
 pub use Rattle.ptb_text.specs.Device.{HasFailed, TakesSome}
 pub use Rattle.ptb_text.specs.Finding.{LiesAhead}
 pub use Rattle.ptb_text.specs.Statements.{text_limit}

@@ -6,8 +6,8 @@ use Rattle.ptb_expr.specs.Store.{Cells}
 use Rattle.ptb_expr.specs.Tree.{Tree}
 use Rattle.ptb_expr.specs.Value.{value, with_target}
 use Rattle.ptb_command.specs.declared.stop.Stop.{Stop}
-use Rattle.ptb_code.specs.Commands.{Part, Assign}
-use Rattle.ptb_code.specs.State.{State}
+use Rattle.ptb_command.specs.Commands.{Part, Assign}
+use Rattle.ptb_command.specs.State.{State}
 use Rattle.ptb_command.specs.Actions.{Action, and_then, goes_on}
 use Rattle.ptb_command.specs.Act.{value_action, target_action, store, parts_action}
 use Rattle.ptb_command.specs.Devices.{Devices, no_exchange, Refusal}

@@ -6,20 +6,20 @@ use Rattle.ptb_text.specs.Statements.{Statements}
 use Rattle.ptb_answers.specs.declared.pause.Pause.{Pause}
 use Rattle.ptb_answers.specs.Choices.{Choices}
 use Rattle.ptb_text.specs.declared.device_fault.DeviceFault.{DeviceFault}
-use Rattle.ptb_code.specs.declared.location.Location.{Location}
+use Rattle.ptb_command.specs.declared.location.Location.{Location}
 use Rattle.ptb_command.specs.declared.stop.Stop.{Stop}
-use Rattle.ptb_code.specs.Commands.{command_of, parts_of}
-use Rattle.ptb_code.specs.State.{Place}
+use Rattle.ptb_command.specs.Commands.{command_of, parts_of}
+use Rattle.ptb_command.specs.State.{Place}
 use Rattle.ptb_command.specs.Actions.{Action}
 use Rattle.ptb_command.specs.Act.{command_action}
-use Rattle.ptb_code.specs.Places.{At}
-use Rattle.ptb_code.specs.Reads.{IsFirstWord}
+use Rattle.ptb_command.specs.Places.{At}
+use Rattle.ptb_command.specs.Reads.{IsFirstWord}
 use Rattle.ptb_command.specs.Devices.{ScreenState, Devices, devices, Refusal, Unanswered, Unread}
 use Rattle.ptb_command.specs.Devices.{NoLine, refused_answers, refused_by}
 use Rattle.ptb_command.specs.Configuration.{Configuration}
 use Rattle.ptb_command.specs.Representation.{Begun}
 use Rattle.ptb_command.specs.Acts.{RefinesTo, Acts}
-use Rattle.ptb_code.specs.Locations.{NextIs}
+use Rattle.ptb_command.specs.Locations.{NextIs}
 use Rattle.ptb_command.proofs.Stops.{stops_along}
 
 -- ---- refusals

@@ -19,14 +19,14 @@ use Rattle.ptb_answers.specs.Outcome.{Answers, Outcome, Done, Asks, Out, go_on, 
 use Rattle.ptb_expr.specs.Store.{Cells, with_value}
 use Rattle.ptb_expr.specs.Reading.{item_of, expression}
 use Rattle.ptb_expr.specs.Value.{Work, random_number, value}
-use Rattle.ptb_code.specs.Commands.{Part, Assign, Say, Width, Show, NewLine, Take, Letter, Operand, Defect, Command}
-use Rattle.ptb_code.specs.State.{Place, Loop, Call, State, text_of, nesting, nesting_limit}
+use Rattle.ptb_command.specs.Commands.{Part, Assign, Say, Width, Show, NewLine, Take, Letter, Operand, Defect, Command}
+use Rattle.ptb_command.specs.State.{Place, Loop, Call, State, text_of, nesting, nesting_limit}
 use Rattle.ptb_command.specs.Actions.{Halt, Faults, Ends, Progress, Goes, Halts, Action}
 use Rattle.ptb_command.specs.Actions.{on_progress, and_then, goes_on, halt, change, show, attempt, or_halt, work_action}
 use Rattle.ptb_command.specs.Act.{newline, without_line, fails, is_full, go_to, if_not_full}
 use Rattle.ptb_command.specs.Act.{goto_action, with_call, gosub_action, return_action, without_loop}
 use Rattle.ptb_command.specs.Act.{with_loop, for_action, loops_from, is_past, loop_end, loop_turn}
-use Rattle.ptb_code.specs.Commands.{letter_of}
+use Rattle.ptb_command.specs.Commands.{letter_of}
 use Rattle.ptb_command.specs.Act.{after_sum, next_action, finish, end_of, first_width}
 use Rattle.ptb_command.specs.Act.{command_action, is_fresh, report_bytes, step_result_of, with_step}
 use Rattle.ptb_command.specs.Act.{act, value_action, target_action, store, take_line, ask_for}

@@ -6,7 +6,7 @@ use Rattle.ptb_expr.specs.Store.{Cells}
 use Rattle.ptb_command.specs.declared.ending.Ending.TheVariants as endings
 use Rattle.ptb_command.specs.declared.stop.Stop.{Stop}
 use Rattle.ptb_command.specs.declared.stop.Stop.TheVariants as stops
-use Rattle.ptb_code.specs.State.{State}
+use Rattle.ptb_command.specs.State.{State}
 use Rattle.ptb_command.specs.Actions.{Faults, Ends, Action, goes_on, halt, show}
 use Rattle.ptb_command.specs.Devices.{Devices, Refusal, no_exchange, nothing_refused}
 use Rattle.ptb_command.specs.Traces.{Trace, trace, with_due, still_due, following, once_shown, state_after, Leaves}

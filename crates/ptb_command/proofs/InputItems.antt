@@ -28,8 +28,8 @@ use Rattle.ptb_command.specs.Breakage.{Breakage}
 use Rattle.ptb_command.specs.Breakage as errors
 use Rattle.ptb_command.specs.declared.stop.Stop.{Stop}
 use Rattle.ptb_command.specs.declared.stop.Stop.TheVariants as stops
-use Rattle.ptb_code.specs.Commands.{Part, Take}
-use Rattle.ptb_code.specs.State.{State}
+use Rattle.ptb_command.specs.Commands.{Part, Take}
+use Rattle.ptb_command.specs.State.{State}
 use Rattle.ptb_command.specs.Actions.{Ends, Progress, Goes, Halts, Action, on_progress, and_then}
 use Rattle.ptb_command.specs.Actions.{goes_on, halt, show, attempt, or_halt, work_action}
 use Rattle.ptb_command.specs.Act.{newline, fault_word, target_action, store, take_line, ask_for}

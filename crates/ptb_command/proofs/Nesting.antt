@@ -5,16 +5,16 @@ use Rattle.std.proofs.Common.{refl, sym, ap, subst, ◌∙◌, Option, Some, Non
 use Rattle.std.specs.Prelude.{◌==◌, not, filter, nat_le, sum_by}
 use Rattle.std.proofs.lemmas.List.Sums.{sum_by-cons}
 use Rattle.ptb_text.specs.Statements.{Statements}
-use Rattle.ptb_code.specs.State.{State, Loop, Call, nesting_limit}
+use Rattle.ptb_command.specs.State.{State, Loop, Call, nesting_limit}
 use Rattle.ptb_command.specs.Act.{is_full, loops_from}
-use Rattle.ptb_code.specs.declared.location.Location.{Location}
-use Rattle.ptb_code.specs.declared.stack.OpenLoop.{OpenLoop}
-use Rattle.ptb_code.specs.declared.stack.Open.{Open}
-use Rattle.ptb_code.specs.declared.stack.Open.TheVariants as opens
-use Rattle.ptb_code.specs.Stacks.{call_of, loop_of, without}
+use Rattle.ptb_command.specs.declared.location.Location.{Location}
+use Rattle.ptb_command.specs.declared.stack.OpenLoop.{OpenLoop}
+use Rattle.ptb_command.specs.declared.stack.Open.{Open}
+use Rattle.ptb_command.specs.declared.stack.Open.TheVariants as opens
+use Rattle.ptb_command.specs.Stacks.{call_of, loop_of, without}
 use Rattle.ptb_command.specs.Configuration.{Configuration}
-use Rattle.ptb_code.proofs.PublicLemmas.{some_none, same_pair}
-use Rattle.ptb_code.specs.Locations.{PlaceIs}
+use Rattle.ptb_command.proofs.FoundLoops.{some_none, same_pair}
+use Rattle.ptb_command.specs.Locations.{PlaceIs}
 use Rattle.ptb_command.specs.Representation.{LoopIs, Nested, Represents}
 
 -- ---- calls

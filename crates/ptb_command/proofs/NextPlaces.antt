@@ -7,13 +7,13 @@ use Rattle.ptb_text.specs.declared.word.Word.{Word}
 use Rattle.ptb_text.specs.Statements.{Statements}
 use Rattle.ptb_text.specs.Words.{is_over, token_at}
 use Rattle.ptb_expr.specs.Evaluate.{IsWhole}
-use Rattle.ptb_code.specs.Commands.{Command, command_of, parts_of, next_begin, command_and}
-use Rattle.ptb_code.specs.Commands.{after_command, command_unless, command_round}
-use Rattle.ptb_code.specs.State.{Place, next_index}
-use Rattle.ptb_code.specs.Places.{At}
-use Rattle.ptb_code.specs.CommandLaws.{CommandLaws}
-use Rattle.ptb_code.specs.Reads.{IsClosed, NextBegins}
-use Rattle.ptb_code.specs.Locations.{PlaceIs}
+use Rattle.ptb_command.specs.Commands.{Command, command_of, parts_of, next_begin, command_and}
+use Rattle.ptb_command.specs.Commands.{after_command, command_unless, command_round}
+use Rattle.ptb_command.specs.State.{Place, next_index}
+use Rattle.ptb_command.specs.Places.{At}
+use Rattle.ptb_command.specs.CommandLaws.{CommandLaws}
+use Rattle.ptb_command.specs.Reads.{IsClosed, NextBegins}
+use Rattle.ptb_command.specs.Locations.{PlaceIs}
 use Rattle.ptb_command.specs.Representation.{Begun}
 
 -- the words of the commands after which `;` begins the next one

@@ -5,7 +5,7 @@ use Rattle.std.proofs.Math.Path.{fun_ext}
 use Rattle.ptb_answers.specs.Outcome.{Answers, Outcome, Asks, go_on}
 use Rattle.ptb_answers.specs.Choices.{AsksFor}
 use Rattle.ptb_expr.specs.Store.{Cells}
-use Rattle.ptb_code.specs.State.{State}
+use Rattle.ptb_command.specs.State.{State}
 use Rattle.ptb_command.specs.Actions.{Action, on_progress, and_then}
 use Rattle.ptb_command.specs.Act.{is_fresh}
 use Rattle.ptb_command.specs.Devices.{Exchange, no_exchange, both_exchanges}

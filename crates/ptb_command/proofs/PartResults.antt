@@ -6,7 +6,7 @@ use Rattle.std.specs.Result.{IsErrAnd}
 use Rattle.ptb_expr.specs.Tree.{Tree}
 use Rattle.ptb_command.specs.declared.stop.Stop.{Stop}
 use Rattle.ptb_command.specs.Act.{value_action, padded_decimal, parts_action}
-use Rattle.ptb_code.specs.Commands.{Part, Say, Show}
+use Rattle.ptb_command.specs.Commands.{Part, Say, Show}
 use Rattle.ptb_command.specs.Actions.{goes_on, show}
 use Rattle.ptb_command.specs.Devices.{Refusal, nothing_refused}
 use Rattle.ptb_command.specs.Traces.{Trace, with_due, still_due, RefinesPart}

@@ -7,8 +7,8 @@ use Rattle.ptb_expr.specs.Tree.{Tree}
 use Rattle.ptb_expr.specs.Reading.{Whole, item_of}
 use Rattle.ptb_expr.specs.Value.{fault, or_fault}
 use Rattle.ptb_command.specs.declared.stop.Stop.{Stop}
-use Rattle.ptb_code.specs.Commands.{Part, Say, Width, Show, NewLine, Letter, Operand, Defect}
-use Rattle.ptb_code.specs.Commands.{command_ends, defect, end_check}
+use Rattle.ptb_command.specs.Commands.{Part, Say, Width, Show, NewLine, Letter, Operand, Defect}
+use Rattle.ptb_command.specs.Commands.{command_ends, defect, end_check}
 use Rattle.ptb_command.specs.Actions.{Faults, Action, and_then, goes_on, halt, show, work_action}
 use Rattle.ptb_command.specs.Act.{value_action, padded_decimal, width_of, newline, parts_action}
 use Rattle.ptb_command.specs.Devices.{Refusal}

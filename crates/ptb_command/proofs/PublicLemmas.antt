@@ -1,5 +1,11 @@
 -- This file passes on the lemmas that proofs of the crates above may cite. It declares none.
 
+pub use Rattle.ptb_command.proofs.ReadItems.{is_whole, item_in_front}
+pub use Rattle.ptb_command.proofs.Nexts.{next_here, next_last, next_later, placed}
+pub use Rattle.ptb_command.proofs.Placed.{is_placed, not_placed}
+pub use Rattle.ptb_command.proofs.Sameness.{same_loop}
+pub use Rattle.ptb_command.proofs.FirstParts.{next_letter}
+pub use Rattle.ptb_command.proofs.FoundLoops.{found_letter, same_pair, some_none}
 pub use Rattle.ptb_command.proofs.Borrows.{borrows_on, borrows_then}
 pub use Rattle.ptb_command.proofs.Assignments.{assign_refines_part, store_refines_part}
 pub use Rattle.ptb_command.proofs.Dispatch.{begun_next}

@@ -15,8 +15,8 @@ use Rattle.ptb_command.specs.Breakage.{Breakage}
 use Rattle.ptb_command.specs.Breakage as errors
 use Rattle.ptb_command.specs.declared.stop.Stop.{Stop}
 use Rattle.ptb_command.specs.declared.stop.Stop.TheVariants as stops
-use Rattle.ptb_code.specs.State.{State}
-use Rattle.ptb_code.specs.Commands.{Part}
+use Rattle.ptb_command.specs.State.{State}
+use Rattle.ptb_command.specs.Commands.{Part}
 use Rattle.ptb_command.specs.Actions.{Ends, Progress, Goes, Halts, Action, on_progress, and_then, attempt, or_halt}
 use Rattle.ptb_command.specs.Act.{parts_action}
 use Rattle.ptb_command.specs.Effects.{action_state, Begins, TakesLines}

@@ -11,9 +11,9 @@ use Rattle.ptb_devices.specs.declared.screen.Screen as screens
 use Rattle.ptb_expr.specs.declared.store.Target.{Target}
 use Rattle.ptb_expr.specs.Store.{Cells}
 use Rattle.ptb_expr.specs.Tree.{Tree}
-use Rattle.ptb_code.specs.Commands.{Part, Take}
-use Rattle.ptb_code.specs.declared.operation.Operation.{Operation}
-use Rattle.ptb_code.specs.declared.operation.Operation.TheVariants.{Done, Input}
+use Rattle.ptb_command.specs.Commands.{Part, Take}
+use Rattle.ptb_command.specs.declared.operation.Operation.{Operation}
+use Rattle.ptb_command.specs.declared.operation.Operation.TheVariants.{Done, Input}
 use Rattle.ptb_command.specs.declared.command_io.CommandIo.{CommandIo}
 use Rattle.ptb_command.specs.declared.execution.parts.CodeInText.{CodeInText}
 use Rattle.ptb_command.specs.declared.execution.parts.Item.{Item}

@@ -14,7 +14,7 @@ use Rattle.ptb_expr.specs.Value.{Work}
 use Rattle.ptb_expr.specs.Evaluate.{WorkComes}
 use Rattle.ptb_command.specs.declared.ending.Ending.TheVariants as endings
 use Rattle.ptb_command.specs.Breakage as errors
-use Rattle.ptb_code.specs.State.{State}
+use Rattle.ptb_command.specs.State.{State}
 use Rattle.ptb_command.specs.Actions.{Ends, Progress, Goes, Halts, goes_on, attempt, or_halt, work_action}
 use Rattle.ptb_command.specs.Effects.{action_state}
 use Rattle.ptb_command.specs.Effects.{action_state}

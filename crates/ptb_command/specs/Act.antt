@@ -24,10 +24,10 @@ use Rattle.ptb_expr.specs.Reading.{Reading, Whole, Malformed, item_of, expressio
 use Rattle.ptb_expr.specs.Value.{fault, or_fault, in_range, random_number, value, target_of, with_target}
 use Rattle.ptb_command.specs.declared.ending.Ending.{Ending}
 use Rattle.ptb_command.specs.declared.ending.Ending.TheVariants as endings
-use Rattle.ptb_code.specs.Commands.{Part, Assign, Say, Width, Show, NewLine, Take, Letter, Operand, Defect, Command}
-use Rattle.ptb_code.specs.Commands.{letter_of}
-use Rattle.ptb_code.specs.State.{Place, Loop, Call, State, nesting, nesting_limit}
-use Rattle.ptb_code.specs.State.{place_after, next_index, text_of, statement}
+use Rattle.ptb_command.specs.Commands.{Part, Assign, Say, Width, Show, NewLine, Take, Letter, Operand, Defect, Command}
+use Rattle.ptb_command.specs.Commands.{letter_of}
+use Rattle.ptb_command.specs.State.{Place, Loop, Call, State, nesting, nesting_limit}
+use Rattle.ptb_command.specs.State.{place_after, next_index, text_of, statement}
 use Rattle.ptb_command.specs.Actions.{Faults, Ends, Progress, Goes, Halts, Action, and_then}
 use Rattle.ptb_command.specs.Actions.{goes_on, halt, change, show, attempt, work_action}
 

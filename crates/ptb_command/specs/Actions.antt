@@ -10,7 +10,7 @@ use Rattle.ptb_answers.specs.Outcome.{Answers, Outcome, Done, go_on, map_outcome
 use Rattle.ptb_expr.specs.Store.{Cells}
 use Rattle.ptb_expr.specs.Value.{Work}
 use Rattle.ptb_command.specs.declared.ending.Ending.{Ending}
-use Rattle.ptb_code.specs.State.{State}
+use Rattle.ptb_command.specs.State.{State}
 
 -- why a command stops: a fault, or the run is over
 pub data Halt : Type 0 where

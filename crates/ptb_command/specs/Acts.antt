@@ -6,7 +6,7 @@ use Rattle.std.specs.Prelude.{◌≡◌, ℕ, List, ◌++◌, Result, Ok, Err}
 use Rattle.ptb_text.specs.Statements.{Statements}
 use Rattle.ptb_answers.specs.Outcome.{Answers, Outcome}
 use Rattle.ptb_command.specs.declared.stop.Stop.{Stop}
-use Rattle.ptb_code.specs.State.{State}
+use Rattle.ptb_command.specs.State.{State}
 use Rattle.ptb_command.specs.Actions.{Action, goes_on}
 use Rattle.ptb_command.specs.Devices.{Devices, Exchange, Exchanges, MayFollow, Refusal}
 use Rattle.ptb_command.specs.Traces.{Leaves}

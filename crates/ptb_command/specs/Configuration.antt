@@ -3,8 +3,8 @@
 --     configuration r steps fresh spent    the configuration with these registers
 use Rattle.std.specs.Prelude.{ℕ, Bool, List, Option}
 use Rattle.ptb_expr.specs.Store.{Cells}
-use Rattle.ptb_code.specs.declared.location.Location.{Location}
-use Rattle.ptb_code.specs.declared.stack.Open.{Open}
+use Rattle.ptb_command.specs.declared.location.Location.{Location}
+use Rattle.ptb_command.specs.declared.stack.Open.{Open}
 use Rattle.ptb_command.specs.declared.registers.Registers.{Registers}
 
 pub record Configuration : Type 0 where

@@ -7,7 +7,7 @@
 --     CommandChange S T                what an entire command may change
 use Rattle.std.specs.Prelude.{◌≡◌, ℕ, ◌≤◌, List, ◌++◌}
 use Rattle.ptb_answers.specs.Outcome.{Outcome, Done, Asks, Out}
-use Rattle.ptb_code.specs.State.{State, nesting, nesting_limit}
+use Rattle.ptb_command.specs.State.{State, nesting, nesting_limit}
 use Rattle.ptb_command.specs.Actions.{Progress, Goes, Halts}
 use Rattle.ptb_command.specs.Act.{StepResult, Next, Over}
 

@@ -4,8 +4,8 @@
 use Rattle.std.specs.Prelude.{◌≡◌, Bool, false, not, ℤ, Result, Ok, Err}
 use Rattle.ptb_expr.specs.declared.fault.FaultKind.{FaultKind}
 use Rattle.ptb_expr.specs.Store.{Cells, with_value}
-use Rattle.ptb_code.specs.declared.stack.OpenLoop.{OpenLoop}
-use Rattle.ptb_code.specs.State.{Place, Loop}
+use Rattle.ptb_command.specs.declared.stack.OpenLoop.{OpenLoop}
+use Rattle.ptb_command.specs.State.{Place, Loop}
 use Rattle.ptb_command.specs.Act.{is_past}
 
 abbrev pub loop_of_open : Place → OpenLoop → Loop

@@ -1,26 +1,41 @@
 -- This file passes on the definitions that the clauses of this crate cite most. It declares nothing.
 pub use Rattle.std.specs.Fmt.{signed_decimal}
 pub use Rattle.ptb_answers.specs.Outcome.{success}
-pub use Rattle.ptb_expr.specs.Evaluate.{IsTarget}
+pub use Rattle.ptb_expr.specs.Evaluate.{expression_there, variable_there, IsTarget}
+pub use Rattle.ptb_expr.specs.Reading.{item_of, expression}
+pub use Rattle.ptb_expr.specs.Translation.{IsMalformed, HasNoValue}
+pub use Rattle.ptb_expr.specs.Tree.{Tree, Bad, Elem}
+pub use Rattle.ptb_expr.specs.declared.fault.FaultKind.TheVariants.{What}
 pub use Rattle.ptb_expr.specs.Store.{Cells, index_of, value_at}
-pub use Rattle.ptb_expr.specs.Translation.{HasNoValue}
-pub use Rattle.ptb_expr.specs.Tree.{Tree, Elem}
 pub use Rattle.ptb_expr.specs.TreeSteps.{run}
 pub use Rattle.ptb_expr.specs.Value.{with_target, or_fault, in_range}
 pub use Rattle.ptb_expr.specs.declared.step.Step.{Step}
 pub use Rattle.ptb_expr.specs.declared.store.Target.TheVariants.{Element}
+pub use Rattle.ptb_text.specs.CursorState.{bytes_left}
+pub use Rattle.ptb_text.specs.Digits.{is_blank}
+pub use Rattle.ptb_text.specs.Statements.{text_limit, Statements}
+pub use Rattle.ptb_text.specs.Words.{is_over, IsCommand, token_at}
+pub use Rattle.ptb_text.specs.declared.word.Word.{Word}
+pub use Rattle.ptb_text.specs.declared.word.Word.TheVariants.{NextKw, LetKw, InputKw, ForKw}
 pub use Rattle.ptb_text.specs.Lines.{line_limit}
-pub use Rattle.ptb_text.specs.Statements.{Statements}
-pub use Rattle.ptb_text.specs.declared.word.Word.TheVariants.{NextKw}
-pub use Rattle.ptb_code.specs.Code.{AreStepsAt, IsDestination, NamesOne, IsPromptIn, prompt_by, said_by, steps_at}
-pub use Rattle.ptb_code.specs.Code.{FailsWithoutValue, IsIn, IsLiteralIn, bytes_in, literal_bytes}
-pub use Rattle.ptb_code.specs.Commands.{Part, Assign, Show, Width, command_of, parts_of}
-pub use Rattle.ptb_code.specs.Reads.{IsNext}
-pub use Rattle.ptb_code.specs.Stacks.{ClosesNewer, loop_of}
-pub use Rattle.ptb_code.specs.State.{Place}
-pub use Rattle.ptb_code.specs.declared.operation.Operation.{Operation}
-pub use Rattle.ptb_code.specs.declared.stack.Open.{Open}
-pub use Rattle.ptb_code.specs.declared.stack.OpenLoop.{OpenLoop}
+pub use Rattle.ptb_command.specs.Code.{AreStepsAt, IsDestination, NamesOne, IsPromptIn, prompt_by, said_by, IsIn}
+pub use Rattle.ptb_command.specs.Code.{IsLiteralIn, bytes_in, literal_bytes, ShowsParts, OnlyHasParts, steps_at}
+pub use Rattle.ptb_command.specs.Code.{FailsWithoutValue}
+pub use Rattle.ptb_command.specs.Commands.{command_round, value_part, assignment, command_ends, defect, end_check}
+pub use Rattle.ptb_command.specs.Commands.{input_item, source, string_item, variable_begins, variable_item, Part}
+pub use Rattle.ptb_command.specs.Commands.{Assign, Show, Width, command_of, parts_of}
+pub use Rattle.ptb_command.specs.Locations.{PlacesAre, IsLineAt}
+pub use Rattle.ptb_command.specs.Places.{next_place}
+pub use Rattle.ptb_command.specs.Reads.{IsRead, NextBegins, IsNext}
+pub use Rattle.ptb_command.specs.Stacks.{ClosesNewer, loop_of, FindsOpen, call_of, newest_loop, newest_return}
+pub use Rattle.ptb_command.specs.Stacks.{without, ClosesCall, ClosesNewest}
+pub use Rattle.ptb_command.specs.State.{statement, Place, nesting_limit, first_place, place_after, text_of}
+pub use Rattle.ptb_command.specs.Translation.{AddsSteps, IsMalformedAt, either, IsTranslated, Translates, HasRoom}
+pub use Rattle.ptb_command.specs.Translation.{KeepsRoom, TakesPart, Completes, IsAlone, IsEnd, IsTranslatedAs}
+pub use Rattle.ptb_command.specs.Translation.{TakesOperand, IsBegun, IsStepRead, limit_tree, step_tree}
+pub use Rattle.ptb_command.specs.declared.stack.OpenLoop.{OpenLoop}
+pub use Rattle.ptb_command.specs.declared.operation.Operation.{Operation}
+pub use Rattle.ptb_command.specs.declared.stack.Open.{Open}
 pub use Rattle.ptb_command.specs.Act.{parts_action, answer_instead, item_action, value_action, target_action}
 pub use Rattle.ptb_command.specs.Act.{first_width, padded_decimal, width_of, is_past, command_action}
 pub use Rattle.ptb_command.specs.Actions.{goes_on, show, work_action, show as show_action}

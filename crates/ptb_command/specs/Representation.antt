@@ -6,14 +6,14 @@ use Rattle.std.specs.Prelude.{◌≡◌, ◌≤◌, ℕ, false, List, [], ◌∷
 use Rattle.ptb_text.specs.declared.word.Word.{Word}
 use Rattle.ptb_text.specs.Statements.{Statements}
 use Rattle.ptb_text.specs.Words.{is_over}
-use Rattle.ptb_code.specs.declared.stack.OpenLoop.{OpenLoop}
-use Rattle.ptb_code.specs.declared.stack.Open.{Open}
-use Rattle.ptb_code.specs.declared.stack.Open.TheVariants as opens
-use Rattle.ptb_code.specs.Commands.{parts_of, command_of, command_at}
-use Rattle.ptb_code.specs.State.{State, Place, Loop, Call, text_of}
+use Rattle.ptb_command.specs.declared.stack.OpenLoop.{OpenLoop}
+use Rattle.ptb_command.specs.declared.stack.Open.{Open}
+use Rattle.ptb_command.specs.declared.stack.Open.TheVariants as opens
+use Rattle.ptb_command.specs.Commands.{parts_of, command_of, command_at}
+use Rattle.ptb_command.specs.State.{State, Place, Loop, Call, text_of}
 use Rattle.ptb_command.specs.Act.{is_fresh}
-use Rattle.ptb_code.specs.Places.{At}
-use Rattle.ptb_code.specs.Locations.{PlaceIs, PlacesAre}
+use Rattle.ptb_command.specs.Places.{At}
+use Rattle.ptb_command.specs.Locations.{PlaceIs, PlacesAre}
 use Rattle.ptb_command.specs.Configuration.{Configuration}
 
 -- ---- levels

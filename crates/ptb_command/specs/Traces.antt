@@ -13,7 +13,7 @@ use Rattle.ptb_answers.specs.Choices.{AsksFor}
 use Rattle.ptb_expr.specs.Store.{Cells}
 use Rattle.ptb_command.specs.declared.stop.Stop.{Stop}
 use Rattle.ptb_command.specs.declared.stop.Stop.TheVariants as stops
-use Rattle.ptb_code.specs.State.{State}
+use Rattle.ptb_command.specs.State.{State}
 use Rattle.ptb_command.specs.Act.{is_fresh}
 use Rattle.ptb_command.specs.Devices.{Devices, Exchange, Exchanges, MayFollow}
 

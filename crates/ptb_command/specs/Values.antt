@@ -6,11 +6,11 @@ use Rattle.ptb_answers.specs.declared.chooser.Chooser as choosers
 use Rattle.ptb_expr.specs.declared.step.Step.{Step}
 use Rattle.ptb_expr.specs.Store.{Cells}
 use Rattle.ptb_expr.specs.Tree.{Tree}
-use Rattle.ptb_code.specs.declared.operation.Expression.{Expression}
+use Rattle.ptb_command.specs.declared.operation.Expression.{Expression}
 use Rattle.ptb_command.specs.declared.stop.Stop.{Stop}
 use Rattle.ptb_command.specs.Act.{value_action}
 use Rattle.ptb_command.specs.Actions.{goes_on}
-use Rattle.ptb_code.specs.Code.{AreStepsAt, FailsWithoutValue}
+use Rattle.ptb_command.specs.Code.{AreStepsAt, FailsWithoutValue}
 use Rattle.ptb_command.specs.Devices.{Devices, with_choices, refused_answers}
 use Rattle.ptb_command.specs.Stops.{Comes}
 use Rattle.ptb_command.specs.Traces.{trace, with_due}

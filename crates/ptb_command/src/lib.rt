@@ -1,26 +1,45 @@
-//! What the commands of Tiny BASIC do. The code of a command is executed (`execution.rt`): it changes
-//! the store, the loops and calls that are open, and the place, and it shows, takes and asks.
+//! The commands of Tiny BASIC: how they are read, and what they do. A command is read once into code
+//! (`translation.rt`, `operation.rt`, `command_code.rt`). The places at which the commands of a program
+//! begin are found in its text (`statements.rt`, `command_finder.rt`). The code of a command is executed
+//! (`execution.rt`): it changes the store, the loops and calls that are open (`stack.rt`), and the
+//! place, and it shows, takes and asks.
 //!
-//! It depends on `ptb_code`, which reads commands into code, on `ptb_devices`, `ptb_expr`,
-//! `ptb_answers`, `ptb_text` and `itoa`. The crate above may rely on `Registers::execute`: a command
-//! does by its code what `specs/Act` says, or stops where that does. It may also rely on the parts of
-//! commands of which its short forms are made, `own_value` (the value of an expression that asks
-//! nothing), `place_after_condition` (where a run continues after an IF) and `end_newest_turn` (what a
-//! NEXT does to the newest loop), and on those of a report, `fault_line` (the line that names a fault)
-//! and `put` (shows bytes).
+//! It depends on `ptb_devices`, `ptb_expr`, `ptb_answers`, `ptb_text`, `arrayvec` and `itoa`. The crate
+//! above may rely on `translate` (the code is that of the parts that `specs/Commands` reads), on
+//! `next_command`, `first_place`, `place_after` and `start_of` (places are those of `specs/State`), on
+//! `command_laws` (how the parts of a command and the commands of a statement follow one another), on
+//! `Stack` and `SavedStack` (what is open, newest first), and on `Registers::execute`: a command does by
+//! its code what `specs/Act` says, or stops where that does. It may also rely on the parts of commands
+//! of which its short forms are made, `own_value` (the value of an expression that asks nothing),
+//! `place_after_condition` (where a run continues after an IF) and `end_newest_turn` (what a NEXT does
+//! to the newest loop), and on those of a report, `fault_line` (the line that names a fault) and `put`
+//! (shows bytes).
 #![tactic(auto)]
 
+mod command_code;
+mod command_finder;
 mod command_io;
+mod command_order;
 mod ending;
 mod execution;
 mod fault_words;
+mod location;
+mod operation;
 mod output;
 mod pending_output;
+mod reads;
 mod registers;
 mod saved_registers;
+mod saved_stack;
+mod stack;
+mod statements;
 mod stop;
+mod translation;
 
+pub use command_code::CommandCode;
+pub use command_finder::next_command;
 pub use command_io::CommandIo;
+pub use command_order::command_laws;
 pub use ending::Ending;
 pub use execution::context::Context;
 pub use execution::jumps::place_after_condition;
@@ -28,8 +47,14 @@ pub use execution::plain_values::own_value;
 pub use execution::print::Output;
 pub use execution::turns::end_newest_turn;
 pub use fault_words::fault_line;
+pub use location::Location;
+pub use operation::{Destination, Expression, Literal, Operation, Prompt, Range};
 pub use output::put;
 pub use pending_output::{PENDING_LIMIT, PendingOutput};
 pub use registers::Registers;
 pub use saved_registers::SavedRegisters;
+pub use saved_stack::SavedStack;
+pub use stack::{NESTING_LIMIT, OpenLoop, Stack};
+pub use statements::{first_place, is_zero, line_at, place_after, start_of};
 pub use stop::Stop;
+pub use translation::translate;

@@ -4,9 +4,12 @@
 ghost use Rattle.std.specs.Prelude.{◌≡◌, ℕ, ℤ, List, true, false, Option, IfOk, IsOk, OnOk, OnErr};
 ghost use Rattle.ptb_command.specs.Configuration.{configuration};
 ghost use Rattle.ptb_command.specs.Representation.{Represents};
-ghost use Rattle.ptb_code.specs.State.{first_state};
+ghost use Rattle.ptb_command.specs.State.{first_state};
 
-use ptb_code::{Location, Stack, command_laws, first_place};
+use crate::command_order::command_laws;
+use crate::location::Location;
+use crate::stack::Stack;
+use crate::statements::first_place;
 use ptb_expr::Store;
 use ptb_text::Program;
 use std::alloc::{AllocError, Global};

@@ -3,8 +3,9 @@
 ghost use Rattle.std.specs.Prelude.{◌≡◌, ◌↔◌, [], None, pos, IsOk, IsTrue, OnOk, OnErr};
 ghost use Rattle.ptb_expr.specs.Store.{empty_cells};
 
+use crate::location::Location;
 use crate::registers::Registers;
-use ptb_code::{Location, SavedStack};
+use crate::saved_stack::SavedStack;
 use ptb_expr::SavedStore;
 use std::alloc::{AllocError, Global};
 use std::marker::Model;

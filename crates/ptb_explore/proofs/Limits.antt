@@ -8,11 +8,11 @@ use Rattle.ptb_answers.specs.Choices.{Choices}
 use Rattle.ptb_answers.specs.Outcome.{Answers, Done, go_on, is_whole, map_outcome}
 use Rattle.ptb_answers.specs.declared.rules.Rules.{Rules}
 use Rattle.ptb_command.specs.Act.{Over}
-use Rattle.ptb_code.specs.Commands.{Command}
+use Rattle.ptb_command.specs.Commands.{Command}
 use Rattle.ptb_command.specs.Configuration.{Configuration}
 use Rattle.ptb_command.specs.declared.ending.Ending.{Ending}
 use Rattle.ptb_command.specs.declared.ending.Ending.TheVariants as endings
-use Rattle.ptb_code.specs.State.{Place, State, next_command}
+use Rattle.ptb_command.specs.State.{Place, State, next_command}
 use Rattle.ptb_machine.specs.Laws.{RunLaws}
 use Rattle.ptb_machine.specs.Play.{Finish, act_unless, after_step_result, finish_in, play, turn, turn_by, turns}
 use Rattle.ptb_explore.specs.Copies.{AreTakenBy}

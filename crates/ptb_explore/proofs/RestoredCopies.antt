@@ -9,7 +9,7 @@ use Rattle.ptb_text.specs.Statements.{StoredProgram}
 use Rattle.ptb_devices.specs.Sources.{LineList}
 use Rattle.ptb_command.specs.Configuration.{Configuration}
 use Rattle.ptb_command.specs.Representation.{Represents}
-use Rattle.ptb_code.specs.State.{first_state}
+use Rattle.ptb_command.specs.State.{first_state}
 use Rattle.ptb_explore.specs.declared.copies.KeptCopy.{KeptCopy}
 use Rattle.ptb_explore.specs.declared.recorder.Recorder.{Recorder}
 use Rattle.ptb_answers.specs.Choices.{Choices}

@@ -11,7 +11,7 @@ use Rattle.ptb_answers.specs.Outcome.{Answers, Outcome, Done, Asks, Out, bounds,
 use Rattle.ptb_answers.specs.Choices.{Choices}
 use Rattle.ptb_command.specs.declared.ending.Ending.{Ending}
 use Rattle.ptb_command.specs.declared.ending.Ending.TheVariants as endings
-use Rattle.ptb_code.specs.State.{State}
+use Rattle.ptb_command.specs.State.{State}
 use Rattle.ptb_command.specs.Configuration.{Configuration}
 use Rattle.ptb_command.specs.Representation.{Represents}
 use Rattle.ptb_answers.specs.declared.rules.Rules.{Rules}

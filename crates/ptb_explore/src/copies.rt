@@ -2,7 +2,7 @@
 
 ghost use Rattle.std.specs.Prelude.{◌≡◌, ◌<◌, ℕ, ℤ, List, Option, [], false, IfOk, drop, length};
 ghost use Rattle.ptb_command.specs.Representation.{Represents};
-ghost use Rattle.ptb_code.specs.State.{first_state};
+ghost use Rattle.ptb_command.specs.State.{first_state};
 ghost use Rattle.ptb_explore.specs.Copies.{KeepsCopy, GoesBackTo, IsSameCopy, with_room};
 
 use arrayvec::ArrayVec;

@@ -1,7 +1,7 @@
 //! All runs of a Tiny BASIC program, in the order of their answers, and their reports: what a run took,
 //! how it ended, and what it showed.
 //!
-//! It depends on `ptb_machine`, on definitions of `ptb_command`, `ptb_code` and `ptb_devices`, on
+//! It depends on `ptb_machine`, on definitions of `ptb_command` and `ptb_devices`, on
 //! `ptb_answers`, `ptb_text`, `arrayvec`, `itoa` and `thiserror`, and on a definition of `rand_pcg`.
 //! The crate above may rely on `Explorer::start`, `after` and
 //! `after_marked` (where a listing begins, or why the answers are no run), on `under` (the same for

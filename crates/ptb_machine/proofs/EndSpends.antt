@@ -11,7 +11,7 @@ use Rattle.ptb_expr.specs.declared.fault.FaultKind.{FaultKind}
 use Rattle.ptb_expr.specs.declared.fault.FaultKind.TheVariants as kinds
 use Rattle.ptb_expr.specs.Store.{value_at, with_value}
 use Rattle.ptb_expr.specs.Value.{in_range}
-use Rattle.ptb_code.specs.State.{Place, Loop, Call, State}
+use Rattle.ptb_command.specs.State.{Place, Loop, Call, State}
 use Rattle.ptb_command.specs.Actions.{change}
 use Rattle.ptb_command.specs.Act.{fails, is_full, if_not_full, goto_action, with_call, gosub_action}
 use Rattle.ptb_command.specs.Act.{return_action, without_loop, with_loop, for_action, loops_from}

@@ -17,14 +17,14 @@ use Rattle.ptb_answers.specs.Outcome.{Answers, Outcome, Done, Asks, Out, go_on, 
 use Rattle.ptb_expr.specs.Store.{Cells, value_at, with_value}
 use Rattle.ptb_expr.specs.Reading.{item_of, expression}
 use Rattle.ptb_expr.specs.Value.{Work, in_range, random_number, value}
-use Rattle.ptb_code.specs.Commands.{Part, Assign, Say, Width, Show, NewLine, Take, Letter, Operand, Defect, Command}
-use Rattle.ptb_code.specs.State.{State, Place, Loop, Call, first_state, text_of, next_command}
+use Rattle.ptb_command.specs.Commands.{Part, Assign, Say, Width, Show, NewLine, Take, Letter, Operand, Defect, Command}
+use Rattle.ptb_command.specs.State.{State, Place, Loop, Call, first_state, text_of, next_command}
 use Rattle.ptb_command.specs.Actions.{Halt, Faults, Ends, Progress, Goes, Halts, Action}
 use Rattle.ptb_command.specs.Actions.{on_progress, and_then, goes_on, halt, change, show, attempt, or_halt, work_action}
 use Rattle.ptb_command.specs.Act.{newline, fails, is_full, if_not_full, goto_action, gosub_action}
 use Rattle.ptb_command.specs.Act.{return_action, without_loop, with_loop, with_call, for_action}
 use Rattle.ptb_command.specs.Act.{loops_from, is_past, loop_end, loop_turn, after_sum, next_action}
-use Rattle.ptb_code.specs.Commands.{letter_of}
+use Rattle.ptb_command.specs.Commands.{letter_of}
 use Rattle.ptb_command.specs.Act.{finish, end_of, first_width, command_action}
 use Rattle.ptb_command.specs.Act.{StepResult, Next, Over, step_result_of, ending_of, with_step, act}
 use Rattle.ptb_command.specs.Act.{value_action, target_action, store, take_line, ask_for}

@@ -2,7 +2,7 @@
 -- Main lemmas: `every_ending` and `of_turn`.
 use Rattle.std.proofs.Common.{Some, Ok}
 use Rattle.ptb_answers.specs.Outcome.{Answers, Outcome}
-use Rattle.ptb_code.specs.State.{State}
+use Rattle.ptb_command.specs.State.{State}
 use Rattle.ptb_command.specs.Act.{StepResult}
 use Rattle.ptb_command.specs.Devices.{Devices, Refusal}
 use Rattle.ptb_machine.specs.TurnResults.{ends, StepComes}

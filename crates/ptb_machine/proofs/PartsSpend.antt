@@ -16,8 +16,8 @@ use Rattle.ptb_expr.specs.Value.{Work, fault, random_number, value, target_of, o
 use Rattle.ptb_answers.proofs.PublicLemmas.{success_reader, failure_reader}
 use Rattle.ptb_expr.proofs.PublicLemmas.{random_number_reader}
 use Rattle.ptb_expr.specs.Laws.{ValueLaws}
-use Rattle.ptb_code.specs.Commands.{Part, Assign, Say, Width, Show, NewLine, Take, Letter, Operand, Defect}
-use Rattle.ptb_code.specs.State.{State}
+use Rattle.ptb_command.specs.Commands.{Part, Assign, Say, Width, Show, NewLine, Take, Letter, Operand, Defect}
+use Rattle.ptb_command.specs.State.{State}
 use Rattle.ptb_command.specs.Actions.{Progress, Goes, Halts, Action, on_progress, and_then, goes_on, show, work_action}
 use Rattle.ptb_command.specs.Act.{newline, width_of, value_action, target_action, store, ask_for}
 use Rattle.ptb_command.specs.Act.{store_or_again, without_line, input_action, parts_action}

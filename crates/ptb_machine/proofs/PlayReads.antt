@@ -10,8 +10,8 @@ use Rattle.ptb_answers.specs.Outcome.{Answers, Outcome, Done, map_outcome, IsRea
 use Rattle.ptb_expr.specs.Reading.{item_of}
 use Rattle.ptb_answers.proofs.PublicLemmas.{done_reader, then_reader_by, map_reader, wider_reader}
 use Rattle.ptb_expr.specs.Laws.{ValueLaws}
-use Rattle.ptb_code.specs.Commands.{Command, letter_of}
-use Rattle.ptb_code.specs.State.{Place, State, first_state, text_of, next_command}
+use Rattle.ptb_command.specs.Commands.{Command, letter_of}
+use Rattle.ptb_command.specs.State.{Place, State, first_state, text_of, next_command}
 use Rattle.ptb_command.specs.Actions.{Faults, Ends, Progress, Goes, Halts}
 use Rattle.ptb_command.specs.Act.{finish, end_of, first_width, command_action}
 use Rattle.ptb_command.specs.Act.{StepResult, Next, Over, step_result_of, with_step, act, parts_action}

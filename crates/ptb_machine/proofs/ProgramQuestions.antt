@@ -7,10 +7,10 @@ use Rattle.std.specs.Ordering.{nat_cmp, eq_by_cmp}
 use Rattle.std.proofs.lemmas.List.Sums.{sum_by-cons}
 use Rattle.ptb_text.specs.Statements.{Statements, text_at}
 use Rattle.ptb_text.specs.Words.{past_blanks}
-use Rattle.ptb_code.specs.Commands.{Command, command_round, commands_from, commands}
-use Rattle.ptb_code.specs.Items.{items_within, items}
-use Rattle.ptb_code.specs.State.{Place, place_after, command_there, placed_at, first_command}
-use Rattle.ptb_code.specs.State.{command_or_next, next_command}
+use Rattle.ptb_command.specs.Commands.{Command, command_round, commands_from, commands}
+use Rattle.ptb_command.specs.Items.{items_within, items}
+use Rattle.ptb_command.specs.State.{Place, place_after, command_there, placed_at, first_command}
+use Rattle.ptb_command.specs.State.{command_or_next, next_command}
 use Rattle.ptb_machine.specs.Questions.{command_questions, text_questions}
 
 -- one of a list's numbers is no more than all

@@ -16,7 +16,7 @@ use Rattle.ptb_machine.specs.declared.fault.RunFault.{RunFault}
 use Rattle.ptb_machine.specs.declared.fault.RunFault.TheVariants as faults
 use Rattle.ptb_command.specs.Breakage.{Breakage}
 use Rattle.ptb_command.specs.Breakage as errors
-use Rattle.ptb_code.specs.State.{Place, State, first_state}
+use Rattle.ptb_command.specs.State.{Place, State, first_state}
 use Rattle.ptb_command.specs.Act.{StepResult, Next, Over}
 use Rattle.ptb_machine.specs.Play.{Last, last_in, after_turn, turn, all_turns, last_state}
 use Rattle.ptb_machine.specs.Play.{unasked_lines, next_number, Finish, finish_of, turns, play}
@@ -27,7 +27,7 @@ use Rattle.ptb_command.specs.Traces.{Leaves}
 use Rattle.ptb_command.specs.Stops.{AsksNext, Continues, LacksLine, AsksUnanswered, IsOutOfLines, DeviceFails}
 use Rattle.ptb_answers.specs.declared.rules.Rules.{Rules}
 use Rattle.ptb_command.specs.Configuration.{Configuration}
-use Rattle.ptb_code.specs.Locations.{PlacesAre}
+use Rattle.ptb_command.specs.Locations.{PlacesAre}
 use Rattle.ptb_command.specs.Representation.{Represents}
 use Rattle.ptb_machine.specs.PlayResults.{played_bytes, Plays, refused_by_pause, IsFinished}
 use Rattle.ptb_machine.specs.PlayResults.{IsUnanswered, IsUnfinished, LacksInput, RunComes}

@@ -9,7 +9,7 @@ use Rattle.ptb_expr.specs.declared.fault.Fault.{Fault}
 use Rattle.ptb_answers.specs.Outcome.{Outcome, Done, Asks, Out, go_on, map_outcome, IsReader}
 use Rattle.ptb_expr.specs.Store.{Cells}
 use Rattle.ptb_expr.specs.Value.{Work}
-use Rattle.ptb_code.specs.State.{State}
+use Rattle.ptb_command.specs.State.{State}
 use Rattle.ptb_command.specs.Actions.{Halt, Progress, Goes, Halts, Action, on_progress, and_then}
 use Rattle.ptb_command.specs.Actions.{goes_on, halt, change, attempt, or_halt, work_action}
 use Rattle.ptb_machine.specs.Questions.{line_questions}

@@ -5,8 +5,8 @@ use Rattle.std.proofs.Common.{Some, None, refl, sym, ap, subst, ◌∙◌, arith
 use Rattle.std.proofs.lemmas.Bool.{leb-false}
 use Rattle.ptb_text.specs.Statements.{StoredProgram}
 use Rattle.ptb_answers.specs.Outcome.{Answers, Outcome, Done, Asks, Out, go_on, map_outcome}
-use Rattle.ptb_code.specs.Commands.{Command}
-use Rattle.ptb_code.specs.State.{Place, State, next_command}
+use Rattle.ptb_command.specs.Commands.{Command}
+use Rattle.ptb_command.specs.State.{Place, State, next_command}
 use Rattle.ptb_command.specs.Act.{StepResult, Next, Over, with_step}
 use Rattle.ptb_machine.specs.Play.{Last, act_unless, turn_by, turn, after_turn, turns_within}
 use Rattle.ptb_machine.specs.Play.{all_turns, last_state, finish_of, after_step_result, turns}

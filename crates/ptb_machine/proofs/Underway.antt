@@ -11,9 +11,9 @@ use Rattle.ptb_command.specs.declared.ending.Ending.{Ending}
 use Rattle.ptb_command.specs.declared.ending.Ending.TheVariants as endings
 use Rattle.ptb_command.specs.Configuration.{Configuration}
 use Rattle.ptb_command.specs.Devices.{MayFollow}
-use Rattle.ptb_code.specs.Locations.{PlacesAre}
+use Rattle.ptb_command.specs.Locations.{PlacesAre}
 use Rattle.ptb_command.specs.Representation.{Represents}
-use Rattle.ptb_code.specs.State.{Place, first_state}
+use Rattle.ptb_command.specs.State.{Place, first_state}
 use Rattle.ptb_command.specs.Stops.{NotMissed, ReportsMissed}
 use Rattle.ptb_command.proofs.PublicLemmas.{missed_from, not_missed, not_missed_then}
 use Rattle.ptb_machine.specs.declared.fault.RunFault.{RunFault}

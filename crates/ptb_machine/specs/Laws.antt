@@ -6,8 +6,8 @@ use Rattle.ptb_text.specs.declared.word.Word.{Word}
 use Rattle.ptb_text.specs.Statements.{Statements, StoredProgram}
 use Rattle.ptb_expr.specs.Tree.{Tree}
 use Rattle.ptb_answers.specs.Outcome.{Answers, Done, go_on, IsReader}
-use Rattle.ptb_code.specs.Commands.{Part, Command}
-use Rattle.ptb_code.specs.State.{State, Place, first_state, nesting, nesting_limit}
+use Rattle.ptb_command.specs.Commands.{Part, Command}
+use Rattle.ptb_command.specs.State.{State, Place, first_state, nesting, nesting_limit}
 use Rattle.ptb_command.specs.Act.{Next, input_action, parts_action, finish, command_action, with_step, act}
 use Rattle.ptb_answers.specs.declared.rules.Rules.{Rules}
 use Rattle.ptb_machine.specs.Play.{turn, after_turn, turns_within, all_turns, last_state}

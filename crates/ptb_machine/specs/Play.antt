@@ -13,8 +13,8 @@ use Rattle.ptb_answers.specs.Outcome.{Answers, Outcome, Done, Asks, Out, go_on, 
 use Rattle.ptb_answers.specs.declared.rules.Rules.{Rules}
 use Rattle.ptb_command.specs.declared.ending.Ending.{Ending}
 use Rattle.ptb_command.specs.declared.ending.Ending.TheVariants as endings
-use Rattle.ptb_code.specs.Commands.{Command}
-use Rattle.ptb_code.specs.State.{State, Place, first_state, next_command}
+use Rattle.ptb_command.specs.Commands.{Command}
+use Rattle.ptb_command.specs.State.{State, Place, first_state, next_command}
 use Rattle.ptb_command.specs.Act.{StepResult, Next, Over, act}
 
 -- ---- turns

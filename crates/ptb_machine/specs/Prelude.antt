@@ -7,24 +7,24 @@ pub use Rattle.ptb_expr.specs.declared.short_value.ShortValue.{ShortValue}
 pub use Rattle.ptb_text.specs.Finding.{LiesAhead}
 pub use Rattle.ptb_text.specs.Statements.{Statements, StoredProgram, size_of}
 pub use Rattle.ptb_text.specs.Words.{is_over}
-pub use Rattle.ptb_code.specs.State.{statement, first_state, next_command, Place}
+pub use Rattle.ptb_command.specs.State.{statement, first_state, next_command, Place}
 pub use Rattle.ptb_command.specs.Act.{ending_of, report_bytes}
-pub use Rattle.ptb_code.specs.Code.{steps_at, Code}
+pub use Rattle.ptb_command.specs.Code.{steps_at, Code}
 pub use Rattle.ptb_command.specs.CommandIo.{SameBorrows}
 pub use Rattle.ptb_command.specs.Devices.{Devices, screen_state, with_screen}
 pub use Rattle.ptb_command.specs.Executed.{code_of}
 pub use Rattle.ptb_command.specs.Execution.{ContinuesAt}
 pub use Rattle.ptb_command.specs.Plain.{DoesPlainly, AreDone}
 pub use Rattle.ptb_command.specs.Reports.{IsShown}
-pub use Rattle.ptb_code.specs.Locations.{PlacesAre, NextIs}
+pub use Rattle.ptb_command.specs.Locations.{PlacesAre, NextIs}
 pub use Rattle.ptb_command.specs.Representation.{Represents}
-pub use Rattle.ptb_code.specs.Stacks.{ClosesNewer, loop_of}
+pub use Rattle.ptb_command.specs.Stacks.{ClosesNewer, loop_of}
 pub use Rattle.ptb_command.specs.Traces.{trace}
-pub use Rattle.ptb_code.specs.Translation.{IsTranslated}
+pub use Rattle.ptb_command.specs.Translation.{IsTranslated}
 pub use Rattle.ptb_command.specs.declared.ending.Ending.TheVariants.{Limit}
-pub use Rattle.ptb_code.specs.declared.operation.Operation.{Operation}
+pub use Rattle.ptb_command.specs.declared.operation.Operation.{Operation}
 pub use Rattle.ptb_command.specs.declared.registers.Registers.{Registers}
-pub use Rattle.ptb_code.specs.declared.stack.Open.{Open}
+pub use Rattle.ptb_command.specs.declared.stack.Open.{Open}
 pub use Rattle.ptb_machine.specs.Beginnings.{IsAtFirst}
 pub use Rattle.ptb_machine.specs.CommandResults.{IsCodeOfNext, IsPerformed, MayPerform}
 pub use Rattle.ptb_machine.specs.EndingWords.{ending_word}

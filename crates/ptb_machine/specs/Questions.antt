@@ -5,9 +5,9 @@ use Rattle.std.specs.Prelude.{ℕ, ◌+◌, ◌-◌, ◌*◌, List, length, sum_
 use Rattle.ptb_text.specs.Statements.{Statements, StoredProgram}
 use Rattle.ptb_expr.specs.Tree.{questions}
 use Rattle.ptb_expr.specs.Reading.{item_of, expression}
-use Rattle.ptb_code.specs.Commands.{Part, Assign, Say, Width, Show, NewLine, Take, Letter}
-use Rattle.ptb_code.specs.Commands.{Operand, Defect, Command, commands}
-use Rattle.ptb_code.specs.State.{State}
+use Rattle.ptb_command.specs.Commands.{Part, Assign, Say, Width, Show, NewLine, Take, Letter}
+use Rattle.ptb_command.specs.Commands.{Operand, Defect, Command, commands}
+use Rattle.ptb_command.specs.State.{State}
 
 -- how often a part asks at most, except for the lines that it takes: once for each RND, and once for a line that isn't
 -- there

@@ -4,7 +4,7 @@
 --     TurnChange limit S T             what a turn of a run may change
 use Rattle.std.specs.Prelude.{ℕ, ◌≤◌, List}
 use Rattle.ptb_answers.specs.Outcome.{Outcome, Done, Asks, Out}
-use Rattle.ptb_code.specs.State.{State, nesting, nesting_limit}
+use Rattle.ptb_command.specs.State.{State, nesting, nesting_limit}
 use Rattle.ptb_command.specs.Effects.{Begins, TakesLines}
 use Rattle.ptb_machine.specs.Play.{Finish}
 

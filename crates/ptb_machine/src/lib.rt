@@ -3,7 +3,7 @@
 //! program that is played once is a run over a reader and a writer. Commands that have short forms
 //! are done one after the other by them (`short_forms/advance.rt`).
 //!
-//! It depends on `ptb_command`, `ptb_code`, `ptb_devices`, `ptb_expr`, `ptb_answers`, `ptb_text`,
+//! It depends on `ptb_command`, `ptb_devices`, `ptb_expr`, `ptb_answers`, `ptb_text`,
 //! `itoa`, `thiserror` and `rand_pcg`. The crate above may rely on `Machine::step` (one
 //! turn of `specs/Play`: the state after it, what it shows, the lines and answers it takes), on
 //! `Player::step` (the same by the code of the program; it reads the text of a command only if the
@@ -42,10 +42,10 @@ pub use plain_run::{run_plain, run_plain_to_end, run_seeded, run_seeded_to_end};
 pub use player::Player;
 pub use program_code::ProgramCode;
 pub use ptb_answers::Rules;
-pub use ptb_code::{
-    CommandCode, Destination, Expression, Operation, command_laws, line_at, start_of, translate,
+pub use ptb_command::{
+    CommandCode, Destination, Ending, Expression, Operation, command_laws, fault_line, line_at,
+    start_of, translate,
 };
-pub use ptb_command::{Ending, fault_line};
 pub use ptb_devices::{Line, Lines, ReaderLines, TextScreen, WriterScreen, read_lines};
 // No crate of the program imports these two: they are for users of the library who have devices of their own.
 pub use ptb_devices::{LineSource, Screen};

@@ -8,8 +8,7 @@ ghost use Rattle.ptb_machine.specs.CommandResults.{IsResultOf, result_of_stop};
 use crate::fault::RunFault;
 use crate::reports::{ending_of, report};
 use ptb_answers::{Chooser, Pause};
-use ptb_code::line_at;
-use ptb_command::{CommandIo, Ending, Stop};
+use ptb_command::{CommandIo, Ending, Stop, line_at};
 use ptb_devices::{LineSource, Screen};
 use ptb_text::Program;
 

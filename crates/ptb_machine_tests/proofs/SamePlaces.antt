@@ -12,16 +12,16 @@ use Rattle.ptb_expr.specs.Operators.{product_operator, sum_operator, comparison}
 use Rattle.ptb_expr.specs.Reading.{Reading, Whole, Malformed, more, paren, variable_or, variable}
 use Rattle.ptb_expr.specs.Reading.{plain, factor, product, first_product, sum, expr_with, expr}
 use Rattle.ptb_expr.specs.Reading.{expression, variable_tree}
-use Rattle.ptb_code.specs.Items.{items_within, items}
-use Rattle.ptb_code.specs.Commands.{Part, Command, assignment, string_at, print_item}
-use Rattle.ptb_code.specs.Commands.{print_parts, parts_of, command_at, command_round, commands_from, commands}
-use Rattle.ptb_code.specs.State.{Place, Loop, Call, text_of}
-use Rattle.ptb_code.specs.Places.{At}
-use Rattle.ptb_code.specs.declared.location.Location.{Location}
-use Rattle.ptb_code.specs.declared.stack.Open.{Open}
-use Rattle.ptb_code.specs.declared.stack.Open.TheVariants as opens
+use Rattle.ptb_command.specs.Items.{items_within, items}
+use Rattle.ptb_command.specs.Commands.{Part, Command, assignment, string_at, print_item}
+use Rattle.ptb_command.specs.Commands.{print_parts, parts_of, command_at, command_round, commands_from, commands}
+use Rattle.ptb_command.specs.State.{Place, Loop, Call, text_of}
+use Rattle.ptb_command.specs.Places.{At}
+use Rattle.ptb_command.specs.declared.location.Location.{Location}
+use Rattle.ptb_command.specs.declared.stack.Open.{Open}
+use Rattle.ptb_command.specs.declared.stack.Open.TheVariants as opens
 use Rattle.ptb_command.specs.Configuration.{Configuration}
-use Rattle.ptb_code.specs.Locations.{PlaceIs, PlacesAre}
+use Rattle.ptb_command.specs.Locations.{PlaceIs, PlacesAre}
 use Rattle.ptb_command.specs.Representation.{Nested}
 use Rattle.ptb_machine.specs.Steps.{FitsProgram}
 use Rattle.ptb_machine_tests.specs.Programs.{IsCounting, IsPrinting}

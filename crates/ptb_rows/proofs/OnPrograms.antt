@@ -9,11 +9,11 @@ use Rattle.ptb_expr.specs.Value.{random_number, value, target_of}
 use Rattle.ptb_expr.specs.Operators.{product_operator, sum_operator, comparison}
 use Rattle.ptb_expr.specs.Reading.{more, paren, variable_or, variable, plain, factor, product}
 use Rattle.ptb_expr.specs.Reading.{first_product, sum, expr_with, expr, expression, variable_tree}
-use Rattle.ptb_code.specs.Items.{items_within, items}
-use Rattle.ptb_code.specs.Commands.{assignment, string_at, print_item, print_parts, input_item}
-use Rattle.ptb_code.specs.Commands.{step_parts, limit_parts, for_parts, next_parts, parts_of}
-use Rattle.ptb_code.specs.Commands.{command_at, command_round, commands_from}
-use Rattle.ptb_code.specs.State.{next_command}
+use Rattle.ptb_command.specs.Items.{items_within, items}
+use Rattle.ptb_command.specs.Commands.{assignment, string_at, print_item, print_parts, input_item}
+use Rattle.ptb_command.specs.Commands.{step_parts, limit_parts, for_parts, next_parts, parts_of}
+use Rattle.ptb_command.specs.Commands.{command_at, command_round, commands_from}
+use Rattle.ptb_command.specs.State.{next_command}
 use Rattle.ptb_command.specs.Act.{input_action, parts_action, finish, command_action, act}
 use Rattle.ptb_machine.specs.Play.{turn, turns_within, all_turns, turns, play}
 use Rattle.ptb_serve.specs.Replies.{program_of_text, runs_reply}

@@ -9,10 +9,10 @@ ghost use Rattle.ptb_command.specs.Prelude.{Comes, width_of};
 use crate::command_io::CommandIo;
 use crate::execution::decimals::{WIDTH_LIMIT, write_decimal};
 use crate::execution::values::long_value;
+use crate::operation::{Expression, Literal, Range};
 use crate::pending_output::PendingOutput;
 use crate::stop::Stop;
 use ptb_answers::Chooser;
-use ptb_code::{Expression, Literal, Range};
 use ptb_devices::{LineSource, Screen};
 use ptb_expr::{Step, Steps, Store};
 

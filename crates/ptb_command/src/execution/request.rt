@@ -3,15 +3,15 @@
 ghost use Rattle.std.specs.Prelude.{◌≡◌, ◌≤◌, ◌+◌, ℕ, List, [], ◌∷◌, ◌++◌, length, IfOk, IfSome, IsOk};
 ghost use Rattle.ptb_command.specs.Prelude.{IsTarget, Cells, goes_on, show, IsPromptIn, NamesOne, prompt_by, said_by};
 ghost use Rattle.ptb_command.specs.Prelude.{nothing_refused, due_trace, SameDevices, HasAsked, Comes, IsShort};
-ghost use Rattle.ptb_code.specs.declared.operation.Operation.TheVariants.{Input};
+ghost use Rattle.ptb_command.specs.declared.operation.Operation.TheVariants.{Input};
 
 use crate::command_io::CommandIo;
 use crate::execution::print::bytes_in;
 use crate::execution::values::target;
+use crate::operation::{Destination, Prompt};
 use crate::pending_output::{PENDING_LIMIT, PendingOutput};
 use crate::stop::Stop;
 use ptb_answers::Chooser;
-use ptb_code::{Destination, Prompt};
 use ptb_devices::{LineSource, Screen};
 use ptb_expr::{Step, Store, Target};
 use ptb_text::Letter;

@@ -6,9 +6,9 @@ ghost use Rattle.ptb_command.specs.Prelude.{FailsWithoutValue, Part, Width, Devi
 ghost use Rattle.ptb_command.specs.Prelude.{with_choices, Comes, Trace, trace, with_due};
 
 use crate::execution::values::long_value;
+use crate::operation::Expression;
 use crate::stop::{Stop, fault};
 use ptb_answers::Chooser;
-use ptb_code::Expression;
 use ptb_expr::{FaultKind, Step, Store};
 
 // A value as a width.

@@ -4,8 +4,10 @@ use crate::tests::shared::{
     ALIKE, Doing, Likeness, MEMORY, NO_ANSWER, Offer, UNLIKE, compared, doing, done, expect_eq,
     fault, letter, lines_of, nothing, numbers, with_line,
 };
-use ptb_code::{Location, OpenLoop, Stack, first_place, is_zero, next_command, place_after};
-use ptb_command::{Output, Registers, SavedRegisters, Stop, put};
+use ptb_command::{
+    Location, OpenLoop, Output, Registers, SavedRegisters, Stack, Stop, first_place, is_zero,
+    next_command, place_after, put,
+};
 use ptb_devices::TextScreen;
 use ptb_expr::Store;
 use ptb_machine::{line_at, start_of};

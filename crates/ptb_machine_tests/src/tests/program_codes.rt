@@ -3,8 +3,7 @@
 
 use crate::tests::loops::expect_end;
 use crate::tests::shared::{MEMORY, expect_eq, letter, numbers, push_lines, table};
-use ptb_code::Location;
-use ptb_command::Registers;
+use ptb_command::{Location, Registers};
 use ptb_machine::{Ending, Operation, ProgramCode};
 use ptb_text::{Device, LoadFault, Program, load};
 use std::alloc::{AllocError, Global};

@@ -4,8 +4,7 @@ ghost use Rattle.std.specs.Prelude.{◌≡◌, None, Ok, IsTrue};
 ghost use Rattle.ptb_text.specs.Statements.{program};
 ghost use Rattle.ptb_text.specs.Words.{is_letter};
 
-use ptb_code::{Location, Stack, first_place};
-use ptb_command::{CommandIo, Context, Output, Registers, Stop};
+use ptb_command::{CommandIo, Context, Location, Output, Registers, Stack, Stop, first_place};
 use ptb_devices::{Line, Lines, Screen, WriterScreen};
 use ptb_expr::{Listed, Pause, Store};
 use ptb_machine::{CommandCode, Rules, line_at, translate};

@@ -3,7 +3,7 @@
 use crate::tests::shared::{
     ALIKE, Likeness, SAME_HASH, UNLIKE, compared, expect_eq, letter, numbers,
 };
-use ptb_code::{Location, NESTING_LIMIT, OpenLoop, SavedStack, Stack};
+use ptb_command::{Location, NESTING_LIMIT, OpenLoop, SavedStack, Stack};
 use ptb_text::Letter;
 use std::alloc::Global;
 use std::process::Abort;

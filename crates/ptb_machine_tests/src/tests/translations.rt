@@ -1,7 +1,7 @@
 // This file tests the code into which a command is translated, and where the next command begins.
 
 use crate::tests::shared::{expect_eq, table};
-use ptb_code::{Literal, Prompt};
+use ptb_command::{Literal, Prompt};
 use ptb_expr::FaultKind::{How, What};
 use ptb_expr::{FaultKind, Step};
 use ptb_machine::{CommandCode, Destination, Operation, translate};

@@ -2,7 +2,7 @@
 use Rattle.std.proofs.Common.{◌≡◌, take, drop, length, refl, rules, sym, ap, ◌∙◌, arith, true, Ok}
 use Rattle.std.proofs.Common.{Err, Some, None, FitsSigned, w16, to_z-of_z}
 use Rattle.ptb_answers.specs.Outcome.{is_open}
-use Rattle.ptb_code.specs.State.{State}
+use Rattle.ptb_command.specs.State.{State}
 use Rattle.ptb_machine.specs.Play.{run_from}
 use Rattle.ptb_chances.specs.Planned.{PlanAnswers, plan_choices}
 use Rattle.ptb_chances.specs.Standing.{Came}

@@ -1,7 +1,7 @@
 -- This file says what is kept while a plan is played: in each state from which it may have begun, the run has come
 -- to where the machine is.
 use Rattle.std.proofs.Common.{◌≡◌, ◌≤◌, ◌-◌, false, length, take, drop}
-use Rattle.ptb_code.specs.State.{State}
+use Rattle.ptb_command.specs.State.{State}
 use Rattle.ptb_chances.specs.Standing.{Came, IsStageAt}
 use Rattle.ptb_chances.proofs.plays.play_plan.Given as goal
 

@@ -5,8 +5,8 @@ use Rattle.std.proofs.lemmas.Result.{err_from_is_err_and}
 use Rattle.ptb_text.specs.CursorState.{CursorState}
 use Rattle.ptb_text.specs.Finding.{LiesAhead}
 use Rattle.ptb_text.specs.Words.{is_over}
-use Rattle.ptb_code.specs.Commands.{command_at, commands_from}
-use Rattle.ptb_code.specs.Translation.{IsTranslated}
+use Rattle.ptb_command.specs.Commands.{command_at, commands_from}
+use Rattle.ptb_command.specs.Translation.{IsTranslated}
 use Rattle.ptb_machine.proofs.PublicLemmas.{next_ahead}
 use Rattle.ptb_check.proofs.Progress.{all_written, more_written, not_written}
 use Rattle.ptb_check.proofs.Rounds.{commands_left, left_at, mistakes_from, mistakes_left, no_command_left}

@@ -1,6 +1,6 @@
 -- This file says what the loop over the commands of a statement keeps.
 use Rattle.std.proofs.Common.{◌≡◌, ◌-◌, length}
-use Rattle.ptb_code.specs.Commands.{commands_from}
+use Rattle.ptb_command.specs.Commands.{commands_from}
 use Rattle.ptb_check.specs.Mistakes.{statement_mistakes}
 use Rattle.ptb_check.proofs.Rounds.{mistakes_from}
 use Rattle.ptb_check.proofs.Progress.{IsWrittenUpTo}

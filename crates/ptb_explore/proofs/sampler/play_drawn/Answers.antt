@@ -2,7 +2,7 @@
 use Rattle.std.proofs.Common.{◌≡◌, ◌∙◌, [], drop, refl, ap, sym, false, Ok, Some, None}
 use Rattle.std.proofs.lemmas.Bool.{false≢true}
 use Rattle.ptb_answers.specs.Seeds.{RefusedForMemory, drawn_from, seeded_choices}
-use Rattle.ptb_code.specs.State.{first_state}
+use Rattle.ptb_command.specs.State.{first_state}
 use Rattle.ptb_devices.specs.Sources.{LineList}
 use Rattle.ptb_machine.specs.Play.{play}
 use Rattle.ptb_explore.specs.PlannedPlays.{IsRunPrefix}

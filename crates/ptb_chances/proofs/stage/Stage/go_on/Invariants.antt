@@ -1,7 +1,7 @@
 -- This file says what is kept while a run continues: in each state from which it may have begun, it has come to where
 -- the machine is.
 use Rattle.std.proofs.Common.{◌≡◌, ◌≤◌, ◌-◌, [], false, length, drop}
-use Rattle.ptb_code.specs.State.{State}
+use Rattle.ptb_command.specs.State.{State}
 use Rattle.ptb_chances.specs.Standing.{Came, IsStageAt}
 use Rattle.ptb_chances.proofs.stage.Stage.go_on.Given as goal
 

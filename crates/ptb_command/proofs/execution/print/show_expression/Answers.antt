@@ -1,6 +1,6 @@
 -- This file answers what is left to prove of `show_expression`.
 use Rattle.std.proofs.Common.{◌≡◌, refl, rules, to_z, of_z, w16}
-use Rattle.ptb_code.specs.Commands.{Show}
+use Rattle.ptb_command.specs.Commands.{Show}
 use Rattle.ptb_command.specs.CommandIo.{io_devices}
 use Rattle.ptb_command.proofs.Borrows.{devices_then}
 use Rattle.ptb_command.proofs.PartResults.{show_comes}

@@ -1,7 +1,7 @@
 -- This file answers what is left to prove of `Registers::do_input`.
 use Rattle.std.proofs.Common.{◌∙◌, Err, Ok, ap, false, refl, subst, sym}
 use Rattle.std.specs.Prelude.{IfSome, slice_get}
-use Rattle.ptb_code.specs.declared.operation.Operation.TheVariants.{Input}
+use Rattle.ptb_command.specs.declared.operation.Operation.TheVariants.{Input}
 use Rattle.ptb_command.specs.declared.execution.parts.CodeInText.{CodeInText}
 use Rattle.ptb_command.specs.Configuration.{configuration}
 use Rattle.ptb_command.specs.ScreenOperations.{IsPartTaken}

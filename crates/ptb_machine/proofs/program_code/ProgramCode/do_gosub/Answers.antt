@@ -1,6 +1,6 @@
 -- This file answers what is left to prove of a GOSUB that is done by its short form.
 use Rattle.std.proofs.Common.{inr, refl, subst, sym}
-use Rattle.ptb_code.specs.declared.location.Location.{Location}
+use Rattle.ptb_command.specs.declared.location.Location.{Location}
 use Rattle.ptb_machine.specs.declared.short_forms.short_command.ShortCommand.TheVariants as commands
 use Rattle.ptb_machine.specs.Entries.{BeginsAt}
 use Rattle.ptb_machine.specs.ProgramCode.{code_from}

@@ -6,7 +6,7 @@ use Rattle.ptb_answers.specs.Outcome.{success}
 use Rattle.ptb_expr.specs.Short.{IsShortOf}
 use Rattle.ptb_expr.specs.TreeSteps.{run}
 use Rattle.ptb_machine.specs.declared.short_forms.short_command.ShortCommand.TheVariants as commands
-use Rattle.ptb_code.specs.Code.{steps_at}
+use Rattle.ptb_command.specs.Code.{steps_at}
 use Rattle.ptb_machine.specs.ProgramCode.{code_from}
 use Rattle.ptb_machine.specs.ShortForms.{place_by}
 use Rattle.ptb_machine.proofs.Positions.{form_of, found_reaches}

@@ -1,5 +1,5 @@
 -- This file answers what is left to prove of `first_command`.
-use Rattle.ptb_code.specs.State.{first_place}
+use Rattle.ptb_command.specs.State.{first_place}
 use Rattle.ptb_machine_tests.proofs.tests.commands.first_command.Goals as goal
 
 pub next_command-requires : goal.next_command-requires

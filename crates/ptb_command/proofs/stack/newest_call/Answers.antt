@@ -1,0 +1,13 @@
+-- This file proves goals of `newest_call` that the prover finds late by itself.
+use Rattle.std.proofs.Common.{arith}
+use Rattle.std.proofs.lemmas.Grind.{common_steps}
+use Rattle.ptb_command.proofs.stack.newest_call.Goals as goal
+
+pub levels-init : goal.levels-init
+levels-init c = grind (arith, common_steps)
+
+pub levels-preserved : goal.levels-preserved
+levels-preserved c = grind (arith, common_steps)
+
+pub returns-in-Call : goal.returns-in-Call
+returns-in-Call c = record { found = grind (arith, common_steps); there = grind (arith, common_steps) }
