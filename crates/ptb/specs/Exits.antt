@@ -28,7 +28,7 @@ use Rattle.ptb_serve.specs.declared.note.Note.{Note}
 use Rattle.ptb_serve.specs.declared.note.Note.TheVariants as notes
 use Rattle.ptb_serve.specs.Statuses.{note_status}
 use Rattle.ptb.specs.declared.terminal.Terminals.{Terminals}
-use Rattle.ptb.specs.Opened.{IsUntouched, ServesTask}
+use Rattle.ptb.specs.OpenedPrograms.{IsUntouched, ServesTask}
 
 -- an argument is no text, or there is no memory for the arguments
 abbrev pub unread_status : ReadErrorKind → ℕ

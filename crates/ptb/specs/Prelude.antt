@@ -9,4 +9,4 @@ pub use Rattle.ptb_serve.specs.declared.note.Note.{Note as NoteValue}
 pub use Rattle.ptb.specs.Exits.{AnswersOptions, AsksAt, ExitsBy, IsRefusedStatus, IsUnreadStatus, by_seed, draws_seed}
 pub use Rattle.ptb.specs.Exits.{shown_status, unread_status}
 pub use Rattle.ptb.specs.Messages.{shortage_of}
-pub use Rattle.ptb.specs.Opened.{ServesOpened, ServesTask, exit_status, no_lines}
+pub use Rattle.ptb.specs.OpenedPrograms.{ServesOpened, ServesTask, exit_status, no_lines}

@@ -1,7 +1,7 @@
 -- This file names the files of definitions.
 pub mod Outcome
 pub mod Choices
-pub mod Asked
+pub mod AskedQuestions
 pub mod Seeds
-pub mod Drawn
+pub mod DrawnAnswers
 pub mod AnswerText

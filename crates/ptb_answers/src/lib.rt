@@ -6,7 +6,7 @@
 //! grows by it), on `Listed` (the answers of a list, in order), on `Seeded`, whose answers are those
 //! of `specs/Seeds`, and on what the command line and the machine share: the `Rules` of a run, and how
 //! lists of answers are written (`Form`, `Marked` and `specs/AnswerText`), or kept (`Asked` and
-//! `specs/Asked`).
+//! `specs/AskedQuestions`).
 #![tactic(auto)]
 
 mod asked;

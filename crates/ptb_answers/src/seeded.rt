@@ -2,7 +2,7 @@
 
 ghost use Rattle.std.specs.Prelude.{◌≡◌, ◌≤ℤ◌, [], length, pos};
 ghost use Rattle.rand_pcg.specs.Pcg.{pcg32};
-ghost use Rattle.ptb_answers.specs.Asked.{answers_in, bounds_in};
+ghost use Rattle.ptb_answers.specs.AskedQuestions.{answers_in, bounds_in};
 ghost use Rattle.ptb_answers.specs.Seeds.{drawn_answer, drawn_from, generator_after};
 ghost use Rattle.ptb_answers.specs.Seeds.{generator_of, seeded_choices};
 
@@ -30,7 +30,7 @@ pub struct Seeded {
 }
 
 impl Model for Seeded {
-    ghost use Rattle.ptb_answers.specs.Asked.{answers_in, bounds_in};
+    ghost use Rattle.ptb_answers.specs.AskedQuestions.{answers_in, bounds_in};
     ghost use Rattle.ptb_answers.specs.Seeds.{HasDrawn, SeededAnswers, at_state};
 
     ghost Value = { SeededAnswers };

@@ -11,9 +11,9 @@ use Rattle.ptb_command.specs.State.{State}
 use Rattle.ptb_machine.specs.Laws.{RunLaws}
 use Rattle.ptb_machine.specs.Steps.{PlainTurns}
 use Rattle.ptb_machine.specs.Play.{run_from}
-use Rattle.ptb_chances.specs.Standing.{Came, IsOver, SameEnd, IsStageAt}
+use Rattle.ptb_chances.specs.StagePlays.{Came, IsOver, SameEnd, IsStageAt}
 use Rattle.ptb_chances.proofs.PlaySteps.{advanced}
-use Rattle.ptb_chances.proofs.Picked.{whole}
+use Rattle.ptb_chances.proofs.PickedAnswers.{whole}
 
 none_taken : (n : ℕ) (b : Answers) → b ≡ [] → take n b ≡ []
 none_taken n b none = ap (take n) none ∙ by n

@@ -12,10 +12,10 @@ use Rattle.ptb_machine.specs.Play.{Finish, play}
 use Rattle.ptb_chances.specs.Chances.{Row, chance_of_all}
 use Rattle.ptb_machine.specs.RunTree.{leaves, tree}
 use Rattle.ptb_chances.specs.Accounts.{AreAlike, account, chance_in, runs_in, row_of_run}
-use Rattle.ptb_chances.specs.Standing.{IsStageAt}
-use Rattle.ptb_chances.specs.Waiting.{Standing, Waits, CountsFor, below, Covers, Takes, SamePlace, IsJoined, Puts}
+use Rattle.ptb_chances.specs.StagePlays.{IsStageAt}
+use Rattle.ptb_chances.specs.WaitingPlays.{Standing, Waits, CountsFor, below, Covers, Takes, SamePlace, IsJoined, Puts}
 use Rattle.ptb_chances.proofs.Accounts.{alike_self, alike_then}
-use Rattle.ptb_chances.proofs.Joined.{chance_joined, runs_joined}
+use Rattle.ptb_chances.proofs.JoinedAccounts.{chance_joined, runs_joined}
 use Rattle.ptb_chances.proofs.Sums.{plus_comm, plus_assoc, plus_nothing, equals_plus, equals_then, plus_positive}
 
 -- ---- accounts one after the other

@@ -9,7 +9,7 @@ use Rattle.std.proofs.Math.Seq.{drop-cons}
 use Rattle.std.proofs.lemmas.List.{take-append-drop}
 use Rattle.ptb_text.specs.Lines.{lines, pieces, onto_first}
 use Rattle.ptb_chances.specs.Chances.{last_line}
-use Rattle.ptb_chances.specs.Standing.{SameEnd}
+use Rattle.ptb_chances.specs.StagePlays.{SameEnd}
 
 pub last_after_empty : (ls : List (List ℕ)) → last_line ([] ∷ ls) ≡ last_line ls
 last_after_empty [] = refl

@@ -9,8 +9,8 @@ use Rattle.ptb_answers.specs.Outcome.{Answers}
 use Rattle.ptb_answers.specs.declared.rules.Rules.{Rules}
 use Rattle.ptb_machine.specs.Questions.{most_answers}
 use Rattle.ptb_command.specs.Configuration.{Configuration}
-use Rattle.ptb_chances.specs.Waiting.{Standing, Takes, SamePlace, Puts, PutsAnswers, after_answer}
-use Rattle.ptb_chances.specs.Waiting.{load, load_of, power, room}
+use Rattle.ptb_chances.specs.WaitingPlays.{Standing, Takes, SamePlace, Puts, PutsAnswers, after_answer}
+use Rattle.ptb_chances.specs.WaitingPlays.{load, load_of, power, room}
 
 pub power_positive : (n : ℕ) → 1 ≤ power n
 power_positive zero = omega arith

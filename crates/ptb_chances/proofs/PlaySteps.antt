@@ -29,10 +29,10 @@ use Rattle.ptb_machine.specs.TurnResults.{StepsTo, goes, ends, StepComes}
 use Rattle.ptb_chances.specs.Chances.{last_line}
 use Rattle.ptb_machine.specs.Play.{run_from}
 use Rattle.ptb_machine.proofs.PublicLemmas.{of_turn}
-use Rattle.ptb_chances.specs.Planned.{PlanAnswers, plan_choices, RefusedByPlanAnswers}
-use Rattle.ptb_chances.specs.Standing.{SameEnd, IsStageAt, Came, IsOver, IsAsked, PlaysTo, played_of}
+use Rattle.ptb_chances.specs.PlanChoosers.{PlanAnswers, plan_choices, RefusedByPlanAnswers}
+use Rattle.ptb_chances.specs.StagePlays.{SameEnd, IsStageAt, Came, IsOver, IsAsked, PlaysTo, played_of}
 use Rattle.ptb_chances.specs.declared.plays.Played.{Played}
-use Rattle.ptb_chances.proofs.Picked.{all_taken, next_taken}
+use Rattle.ptb_chances.proofs.PickedAnswers.{all_taken, next_taken}
 
 -- what a screen in memory holds
 abbrev pub text_state : List ℕ → ScreenState

@@ -23,17 +23,17 @@ use Rattle.ptb_machine.specs.RunTree.{answers_to, leaves, tree}
 use Rattle.ptb_machine.proofs.PublicLemmas.{bounds-append, is_answer_from}
 use Rattle.ptb_chances.specs.Accounts.{AddsRow, AreSame, IsAccountOf, HasChance, account, chance_in}
 use Rattle.ptb_chances.specs.Accounts.{chance_of_rows, runs_of_rows}
-use Rattle.ptb_chances.specs.Standing.{IsStageAt, Came, IsOver, IsAsked}
-use Rattle.ptb_chances.specs.Waiting.{Standing, Waits, CountsFor, below, Covers, Accounted, Takes}
-use Rattle.ptb_chances.specs.Waiting.{Puts, PutsAnswers, after_answer, first_standing, gone_to}
+use Rattle.ptb_chances.specs.StagePlays.{IsStageAt, Came, IsOver, IsAsked}
+use Rattle.ptb_chances.specs.WaitingPlays.{Standing, Waits, CountsFor, below, Covers, Accounted, Takes}
+use Rattle.ptb_chances.specs.WaitingPlays.{Puts, PutsAnswers, after_answer, first_standing, gone_to}
 use Rattle.ptb_chances.proofs.Accounts.{alike_back, alike_self, chance_is, runs_are}
 use Rattle.ptb_chances.proofs.Accounts.{same_alike as same_alike_of, same_from_alike, same_then}
 use Rattle.ptb_chances.proofs.Coverage.{Alike, account_joined, both_alike, covers_alike}
 use Rattle.ptb_chances.proofs.Coverage.{middle_turned, front_turned, put_in, puts, same_alike}
 use Rattle.ptb_chances.proofs.Coverage.{swapped, taken_out, then_alike}
-use Rattle.ptb_chances.proofs.Joined.{same_joined}
+use Rattle.ptb_chances.proofs.JoinedAccounts.{same_joined}
 use Rattle.ptb_chances.proofs.Leaves.{done_leaves, asked_leaves, all_answers, roomy}
-use Rattle.ptb_chances.proofs.Picked.{above_none, range_split}
+use Rattle.ptb_chances.proofs.PickedAnswers.{above_none, range_split}
 use Rattle.ptb_chances.proofs.Sums.{plus_nothing, equals_then}
 use Rattle.std.proofs.lemmas.Nat.{mul-le}
 use Rattle.std.proofs.lemmas.List.{length-map, take-append-drop}

@@ -21,7 +21,7 @@ use Rattle.ptb_chances.specs.Accounts.{has_result, rows_with, chance_of_rows, ru
 use Rattle.ptb_chances.specs.Accounts.{chance_in, runs_in, HasChance, ArePositive, account}
 use Rattle.ptb_chances.specs.Accounts.{IsAccountOf, reduced, ResultsRise}
 use Rattle.ptb_chances.proofs.Accounts.{maybe, chance_is, runs_are, chance_positive}
-use Rattle.ptb_chances.proofs.Lowest.{lowest_same}
+use Rattle.ptb_chances.proofs.LowestTerms.{lowest_same}
 use Rattle.ptb_chances.proofs.Orders.{result_exact, equal_back, less_apart, has, has_results, results_rise}
 use Rattle.ptb_chances.specs.Order.{result_order_total}
 use Rattle.ptb_chances.proofs.Sums.{plus_nothing}

@@ -21,8 +21,8 @@ use Rattle.ptb_chances.specs.Accounts.{has_result, rows_with, chance_of_rows, ru
 use Rattle.ptb_chances.specs.Order.{result_order_total}
 use Rattle.ptb_chances.specs.TableLaws.{TableLaws}
 use Rattle.ptb_chances.proofs.Accounts.{maybe, chance_is, runs_are, chance_positive}
-use Rattle.ptb_chances.proofs.Positive.{all_positive}
-use Rattle.ptb_chances.proofs.Lowest.{lowest_equal, lowest_positive}
+use Rattle.ptb_chances.proofs.PositiveAccounts.{all_positive}
+use Rattle.ptb_chances.proofs.LowestTerms.{lowest_equal, lowest_positive}
 use Rattle.ptb_chances.proofs.Orders.{result_exact, less_apart, has, has_results, results_rise}
 use Rattle.ptb_chances.proofs.Sums.{nothing, plus_nothing, plus_assoc, plus_turn, plus_positive}
 use Rattle.ptb_chances.proofs.Sums.{equals_plus, equals_then}

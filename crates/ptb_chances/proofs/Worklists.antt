@@ -10,7 +10,7 @@ use Rattle.std.specs.declared.cmp.Ordering.TheVariants.{Less, Equal, Greater}
 use Rattle.ptb_numbers.specs.Fractions.{Equals, plus}
 use Rattle.ptb_chances.specs.declared.worklist.Place.{Place}
 use Rattle.ptb_chances.specs.declared.worklist.Waiting.{Waiting}
-use Rattle.ptb_chances.specs.Waiting.{IsJoined, Puts, Standing, Takes, unplanned, in_map}
+use Rattle.ptb_chances.specs.WaitingPlays.{IsJoined, Puts, Standing, Takes, unplanned, in_map}
 
 pub map_last : {A : Type 0} (f : A → Standing) (xs : List A) (x : A) (rest : List Standing)
     → map f (xs ++ x ∷ []) ++ rest ≡ map f xs ++ f x ∷ rest

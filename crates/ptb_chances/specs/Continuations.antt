@@ -12,7 +12,7 @@ use Rattle.ptb_command.specs.State.{State}
 use Rattle.ptb_chances.specs.declared.plays.Played.{Played}
 use Rattle.ptb_chances.specs.declared.plays.Played.TheVariants as played
 use Rattle.ptb_chances.specs.declared.worklist.Place.{Place}
-use Rattle.ptb_chances.specs.Standing.{Came, IsAsked, IsOver}
+use Rattle.ptb_chances.specs.StagePlays.{Came, IsAsked, IsOver}
 
 -- of what it showed, the last line is that of the whole
 abbrev pub GoesOn : StoredProgram → Rules → State → Place → List (List ℕ) → List ℕ → Option Ending → Type 0

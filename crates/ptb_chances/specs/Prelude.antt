@@ -14,15 +14,16 @@ pub use Rattle.ptb_machine.specs.Beginnings.{IsAtFirst}
 pub use Rattle.ptb_machine.specs.Steps.{FitsProgram, PlainTurns}
 pub use Rattle.ptb_numbers.specs.Decimals.{decimals}
 pub use Rattle.ptb_numbers.specs.Fractions.{lowest, Equals, plus}
-pub use Rattle.ptb_numbers.specs.Lowest.{ratio_of}
+pub use Rattle.ptb_numbers.specs.LowestTerms.{ratio_of}
 pub use Rattle.ptb_text.specs.Device.{HasFailed, TakesSome}
 pub use Rattle.ptb_text.specs.Lines.{lines}
 pub use Rattle.ptb_chances.specs.Accounts.{AddsRow, IsAccountOf, ResultsRise, reduced}
 pub use Rattle.ptb_chances.specs.Continuations.{ComesTo, GoesOn}
-pub use Rattle.ptb_chances.specs.Counted.{IsTallied, load_left}
+pub use Rattle.ptb_chances.specs.CountedRuns.{IsTallied, load_left}
 pub use Rattle.ptb_chances.specs.Keys.{key_result, result_text, row_of_share, share_text}
 pub use Rattle.ptb_chances.specs.Order.{result_order_total}
 pub use Rattle.ptb_chances.specs.TableLaws.{TableLaws}
-pub use Rattle.ptb_chances.specs.Standing.{CanPlay, PlaysTo, SameEnd, IsStageAt, IsStageAtPlace}
-pub use Rattle.ptb_chances.specs.Waiting.{planned, standings, after_answer, first_standing, gone_to, Puts, PutsAnswers}
-pub use Rattle.ptb_chances.specs.Waiting.{states_left, Takes, unplanned}
+pub use Rattle.ptb_chances.specs.StagePlays.{CanPlay, PlaysTo, SameEnd, IsStageAt, IsStageAtPlace}
+pub use Rattle.ptb_chances.specs.WaitingPlays.{planned, standings, after_answer, first_standing, gone_to, Puts}
+pub use Rattle.ptb_chances.specs.WaitingPlays.{PutsAnswers}
+pub use Rattle.ptb_chances.specs.WaitingPlays.{states_left, Takes, unplanned}

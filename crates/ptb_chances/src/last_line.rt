@@ -4,7 +4,7 @@ ghost use Rattle.std.specs.Prelude.{◌≡◌};
 ghost use Rattle.ptb_chances.specs.Chances.{last_line};
 ghost use Rattle.std.specs.Prelude.{◌≤◌, ◌-◌, ◌⊎◌, drop, get_or, length, IfOk};
 ghost use Rattle.ptb_text.specs.Lines.{lines};
-ghost use Rattle.ptb_chances.specs.Standing.{SameEnd};
+ghost use Rattle.ptb_chances.specs.StagePlays.{SameEnd};
 
 use ptb_text::split_line;
 use std::alloc::{AllocError, Global};

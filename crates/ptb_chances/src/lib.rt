@@ -10,7 +10,7 @@ mod chances;
 mod count;
 mod last_line;
 mod laws;
-mod planned;
+mod plan_chooser;
 mod plays;
 mod result_key;
 mod stage;

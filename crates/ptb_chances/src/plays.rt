@@ -4,9 +4,9 @@ ghost use Rattle.std.specs.Prelude.{◌≡◌, ◌-◌, ◌<◌, ◌≤◌, ℕ,
 ghost use Rattle.ptb_answers.specs.Outcome.{is_open};
 ghost use Rattle.ptb_command.specs.State.{State};
 ghost use Rattle.ptb_machine.specs.Play.{run_from};
-ghost use Rattle.ptb_chances.specs.Standing.{played_of, PlaysTo, IsStageAt};
+ghost use Rattle.ptb_chances.specs.StagePlays.{played_of, PlaysTo, IsStageAt};
 
-use crate::planned::PlanChooser;
+use crate::plan_chooser::PlanChooser;
 use ptb_machine::{Ending, Lines, Machine, Player, Rules, RunFault, TextScreen, run_laws};
 use std::alloc::AllocError;
 

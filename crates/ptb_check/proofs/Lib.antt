@@ -2,8 +2,8 @@
 mod Readings
 mod Parts
 mod Endings
-mod Told
-mod Coded
+mod ReportedMistakes
+mod MistakeCodes
 mod Rounds
 mod Progress
-mod Lawful
+mod MistakeLaws

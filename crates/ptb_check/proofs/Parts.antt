@@ -24,7 +24,7 @@ use Rattle.ptb_command.specs.Commands.{for_by, for_parts, next_by, next_parts, p
 use Rattle.ptb_command.specs.Items.{Round, Last, Onward, in_front, with_others, items_within, items, Advances}
 use Rattle.ptb_command.specs.CommandLaws.{CommandLaws}
 use Rattle.ptb_check.specs.Mistakes.{part_fault, parts_fault}
-use Rattle.ptb_expr.specs.Written.{written_fault}
+use Rattle.ptb_expr.specs.WrittenExpressions.{written_fault}
 use Rattle.ptb_check.proofs.Readings.{Tells, some_first, some_second, none_both, expression_tells, variable_tells}
 
 -- ---- one part and the others

@@ -10,7 +10,7 @@ use Rattle.ptb_expr.specs.Spells.{Variable, Paren, Spells, SpellingLaws}
 use Rattle.ptb_expr.specs.Spells as spells
 use Rattle.ptb_expr.specs.Tree.{Tree, Elem, Rnd, Abs, Neg, Bin}
 use Rattle.ptb_expr.specs.Value.{fault}
-use Rattle.ptb_expr.specs.Written.{written_fault}
+use Rattle.ptb_expr.specs.WrittenExpressions.{written_fault}
 use Rattle.std.specs.Prelude.{List}
 
 -- it has a fault exactly where it is malformed

@@ -7,7 +7,7 @@ use Rattle.ptb_text.specs.Statements.{Statements}
 use Rattle.ptb_expr.specs.declared.fault.Fault.{Fault}
 use Rattle.ptb_expr.specs.declared.step.Step.{Step}
 use Rattle.ptb_expr.specs.Value.{fault}
-use Rattle.ptb_expr.specs.Written.{first_fail, only_number}
+use Rattle.ptb_expr.specs.WrittenExpressions.{first_fail, only_number}
 use Rattle.ptb_command.specs.declared.operation.Operation.{Operation}
 use Rattle.ptb_command.specs.declared.operation.Operation.TheVariants as operations
 use Rattle.ptb_command.specs.declared.operation.Expression.{Expression}

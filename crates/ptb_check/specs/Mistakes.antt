@@ -14,7 +14,7 @@ use Rattle.ptb_expr.specs.declared.fault.Fault.{Fault}
 use Rattle.ptb_expr.specs.declared.fault.FaultKind.TheVariants.{How}
 use Rattle.ptb_expr.specs.Reading.{Reading, Whole, Malformed}
 use Rattle.ptb_expr.specs.Value.{fault}
-use Rattle.ptb_expr.specs.Written.{written_fault, written_number}
+use Rattle.ptb_expr.specs.WrittenExpressions.{written_fault, written_number}
 use Rattle.ptb_command.specs.State.{statement, Place}
 use Rattle.ptb_command.specs.Act.{report_bytes}
 use Rattle.ptb_command.specs.Commands.{Part, Assign, Say, Width, Show, NewLine, Take, Letter}

@@ -6,7 +6,7 @@ use ptb_expr::spelling_laws;
 use ptb_machine::{command_laws, effect_laws};
 
 /// The mistake of a command is found by its code.
-#[tactic(auto, using(crate::proofs::Lawful::code_mistake_laws))]
+#[tactic(auto, using(crate::proofs::MistakeLaws::code_mistake_laws))]
 pub(crate) fn code_mistake_laws()
     ensures { CodeMistakeLaws }
 {
@@ -16,7 +16,7 @@ pub(crate) fn code_mistake_laws()
 
 /// The command at which a run ends with a fault is well formed, or its mistake is among those of its
 /// program.
-#[tactic(auto, using(crate::proofs::Lawful::check_laws))]
+#[tactic(auto, using(crate::proofs::MistakeLaws::check_laws))]
 pub fn check_laws()
     ensures { CheckLaws }
 {

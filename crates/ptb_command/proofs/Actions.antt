@@ -12,7 +12,7 @@ use Rattle.ptb_command.specs.Actions.{or_halt, work_action}
 use Rattle.ptb_command.specs.Devices.{Refusal, nothing_refused}
 use Rattle.ptb_command.specs.Traces.{Trace, with_due, still_due, RefinesPart}
 use Rattle.ptb_command.specs.Stops.{Stops, RefinesPartTo}
-use Rattle.ptb_command.proofs.Due.{stops_due}
+use Rattle.ptb_command.proofs.PendingBytes.{stops_due}
 use Rattle.ptb_command.proofs.Effects.{then_keeps, takes_itself}
 use Rattle.ptb_command.proofs.PartRefinement.{refines_part_refl, refines_part_under}
 use Rattle.ptb_command.proofs.Stops.{GoesForward, forward_itself, forward_joined, Adds}

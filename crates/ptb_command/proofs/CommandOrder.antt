@@ -10,7 +10,7 @@ use Rattle.ptb_text.specs.declared.word.Word.TheVariants.{ReturnKw, RemKw, ForKw
 use Rattle.ptb_text.specs.declared.word.Word.TheVariants.{StopKw}
 use Rattle.ptb_text.specs.Words.{is_over, word_at, token_at, letter_at, Quotation, NoQuote}
 use Rattle.ptb_text.specs.Words.{OpenQuote, QuotedText, quotation_at}
-use Rattle.ptb_text.specs.Finding.{LiesAhead, FindingLaws}
+use Rattle.ptb_text.specs.FoundParts.{LiesAhead, FindingLaws}
 use Rattle.ptb_expr.specs.Tree.{Tree}
 use Rattle.ptb_expr.specs.Reading.{Reading, Whole, Malformed, after, map_reading, expression, variable_tree}
 use Rattle.ptb_expr.specs.Spells.{SpellingLaws}

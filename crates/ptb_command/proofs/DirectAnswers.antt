@@ -8,7 +8,7 @@ use Rattle.ptb_command.specs.Act.{ask_for}
 use Rattle.ptb_command.specs.Actions.{goes_on}
 use Rattle.ptb_command.specs.Traces.{Trace, with_due, RefinesPart}
 use Rattle.ptb_command.proofs.Evaluations.{target_letter}
-use Rattle.ptb_command.proofs.Gathered.{gathered}
+use Rattle.ptb_command.proofs.GatheredBytes.{gathered}
 use Rattle.ptb_command.proofs.InputItems.{ask_known_refines_part}
 
 -- what is named has its prompt

@@ -14,7 +14,7 @@ use Rattle.ptb_expr.specs.declared.fault.Stop.TheVariants as values
 use Rattle.ptb_answers.specs.declared.pause.Pause.{Pause}
 use Rattle.ptb_expr.specs.declared.store.Target.{Target}
 use Rattle.ptb_answers.specs.Choices.{Choices}
-use Rattle.ptb_expr.specs.Evaluate.{WorkComes}
+use Rattle.ptb_expr.specs.Evaluation.{WorkComes}
 use Rattle.ptb_answers.specs.Outcome.{Answers, Outcome, Done, Asks, Out, go_on, map_outcome, failure, answer}
 use Rattle.ptb_expr.specs.Reading.{item_of, expression}
 use Rattle.ptb_expr.specs.Store.{Cells}

@@ -3,7 +3,7 @@
 use Rattle.std.proofs.Common.{◌≡◌, ℕ, true, false, List, [], ◌∷◌, Some, None, refl, ap, ◌∙◌}
 use Rattle.ptb_text.specs.Words.{token_at, QuotedText}
 use Rattle.ptb_expr.specs.Reading.{Reading, Whole, Malformed, item_of, map_reading}
-use Rattle.ptb_expr.specs.Evaluate.{IsWhole}
+use Rattle.ptb_expr.specs.Evaluation.{IsWhole}
 use Rattle.ptb_command.specs.Items.{Last, Onward, in_front, items}
 use Rattle.ptb_command.specs.Commands.{Part, Say, NewLine, command_ends, end_check, string_at}
 use Rattle.ptb_command.specs.Commands.{string_or_value, width_or, print_item, next_item, after_item}

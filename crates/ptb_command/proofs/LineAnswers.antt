@@ -19,7 +19,7 @@ use Rattle.ptb_command.specs.Devices.{Devices, nothing_refused, refused_answers,
 use Rattle.ptb_command.specs.Stops.{stop_of_device, Stops, RefinesPartTo, Comes}
 use Rattle.ptb_command.specs.Traces.{Trace, trace, with_due, still_due, RefinesPart}
 use Rattle.ptb_command.proofs.Actions.{refines_part_on, stops_unrefused}
-use Rattle.ptb_command.proofs.Due.{stops_none}
+use Rattle.ptb_command.proofs.PendingBytes.{stops_none}
 use Rattle.ptb_command.proofs.Dispatch.{answers_refused}
 use Rattle.ptb_command.proofs.InputItems.{with_most, with_given, fewer_left, flush_stops, line_left}
 use Rattle.ptb_command.proofs.InputItems.{line_asked, take_ask_stops, take_unread, take_dry}

@@ -6,7 +6,7 @@ use Rattle.std.proofs.lemmas.Bool.{false≢true}
 use Rattle.ptb_text.specs.declared.word.Word.{Word}
 use Rattle.ptb_text.specs.Statements.{Statements}
 use Rattle.ptb_text.specs.Words.{is_over, token_at}
-use Rattle.ptb_expr.specs.Evaluate.{IsWhole}
+use Rattle.ptb_expr.specs.Evaluation.{IsWhole}
 use Rattle.ptb_command.specs.Commands.{Command, command_of, parts_of, next_begin, command_and}
 use Rattle.ptb_command.specs.Commands.{after_command, command_unless, command_round}
 use Rattle.ptb_command.specs.State.{Place, next_index}

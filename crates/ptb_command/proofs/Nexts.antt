@@ -11,7 +11,7 @@ use Rattle.ptb_command.specs.State.{first_command, command_or_next, next_command
 use Rattle.ptb_command.specs.Places.{At}
 use Rattle.ptb_command.specs.CommandLaws.{CommandLaws}
 use Rattle.ptb_command.specs.Locations.{PlaceIs, IsLineAt, PlacesAre, NextIs}
-use Rattle.ptb_command.proofs.Placed.{is_placed}
+use Rattle.ptb_command.proofs.MachinePlaces.{is_placed}
 
 pub next_nowhere : (p : Statements) (q : Option Place) → PlacesAre p q None → next_command p q ≡ None
 unfolding next_command

@@ -5,7 +5,7 @@ use Rattle.std.proofs.Common.{slice_get, Option, Some, None, refl, sym, ap, subs
 use Rattle.std.proofs.Common.{add-one}
 use Rattle.std.specs.Option.{option_and_then}
 use Rattle.ptb_text.specs.Words.{is_over}
-use Rattle.ptb_text.specs.Finding.{FindingLaws}
+use Rattle.ptb_text.specs.FoundParts.{FindingLaws}
 use Rattle.ptb_expr.specs.Reading.{Reading, Whole, Malformed, item_of}
 use Rattle.ptb_expr.specs.Spells.{SpellingLaws}
 use Rattle.ptb_command.specs.Items.{Round, Last, Onward, in_front, with_others, items}

@@ -2,7 +2,7 @@
 
 pub use Rattle.ptb_command.proofs.ReadItems.{is_whole, item_in_front}
 pub use Rattle.ptb_command.proofs.Nexts.{next_here, next_last, next_later, placed}
-pub use Rattle.ptb_command.proofs.Placed.{is_placed, not_placed}
+pub use Rattle.ptb_command.proofs.MachinePlaces.{is_placed, not_placed}
 pub use Rattle.ptb_command.proofs.Sameness.{same_loop}
 pub use Rattle.ptb_command.proofs.FirstParts.{next_letter}
 pub use Rattle.ptb_command.proofs.FoundLoops.{found_letter, same_pair, some_none}

@@ -2,7 +2,7 @@
 -- Main lemma: `item_in_front`.
 use Rattle.std.proofs.Common.{◌≡◌, ℕ, List, ◌∷◌, refl, sym, ap, ◌∙◌}
 use Rattle.ptb_expr.specs.Reading.{Reading, Whole, Malformed, item_of}
-use Rattle.ptb_expr.specs.Evaluate.{IsWhole}
+use Rattle.ptb_expr.specs.Evaluation.{IsWhole}
 use Rattle.ptb_command.specs.Items.{in_front}
 
 -- ---- readings

@@ -11,7 +11,7 @@ use Rattle.ptb_answers.specs.Outcome.{Answers, Outcome, Done, map_outcome, succe
 use Rattle.ptb_answers.specs.Choices.{Choices, Reaches, Pauses}
 use Rattle.ptb_expr.specs.Store.{Cells}
 use Rattle.ptb_expr.specs.Value.{Work}
-use Rattle.ptb_expr.specs.Evaluate.{WorkComes}
+use Rattle.ptb_expr.specs.Evaluation.{WorkComes}
 use Rattle.ptb_command.specs.declared.ending.Ending.TheVariants as endings
 use Rattle.ptb_command.specs.Breakage as errors
 use Rattle.ptb_command.specs.State.{State}
@@ -26,7 +26,7 @@ use Rattle.ptb_command.proofs.Effects.{attempt_state}
 use Rattle.ptb_command.proofs.Exchanges.{shows_nothing}
 use Rattle.ptb_command.proofs.PartRefinement.{leaves_under, leaves_to, once_nothing}
 use Rattle.ptb_command.proofs.PartRefinement.{freshens_nothing, refines_part_under}
-use Rattle.ptb_command.proofs.Due.{after_is, refines_part_dropped, stops_due, stops_dropped}
+use Rattle.ptb_command.proofs.PendingBytes.{after_is, refines_part_dropped, stops_due, stops_dropped}
 use Rattle.ptb_command.specs.declared.stop.Stop.TheVariants as stops
 use Rattle.ptb_command.proofs.Stops.{asks_before, attempt_adds, or_halt_adds, stops_under}
 

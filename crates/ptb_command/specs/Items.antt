@@ -4,7 +4,7 @@
 --     LiesOn t i j             j is a place that something read at i may end at, even if nothing is taken
 use Rattle.std.specs.Prelude.{◌≡◌, ℕ, zero, suc, ◌≤◌, List, [], ◌∷◌, length}
 use Rattle.ptb_text.specs.Words.{past_blanks}
-use Rattle.ptb_text.specs.Finding.{LiesAhead}
+use Rattle.ptb_text.specs.FoundParts.{LiesAhead}
 use Rattle.ptb_expr.specs.Reading.{Reading, Whole, Malformed}
 
 -- what is read at a place: the last items, or one item and the place at which the next is read

@@ -22,10 +22,10 @@ pub mod Representation
 pub mod Acts
 pub mod Reports
 pub mod CommandIo
-pub mod Executed
+pub mod ExecutedCommands
 pub mod Loops
 pub mod Execution
 pub mod ScreenOperations
 pub mod Values
-pub mod Plain
+pub mod PlainCommands
 pub mod Prelude

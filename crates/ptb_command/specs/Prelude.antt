@@ -1,7 +1,7 @@
 -- This file passes on the definitions that the clauses of this crate cite most. It declares nothing.
 pub use Rattle.std.specs.Fmt.{signed_decimal}
 pub use Rattle.ptb_answers.specs.Outcome.{success}
-pub use Rattle.ptb_expr.specs.Evaluate.{expression_there, variable_there, IsTarget}
+pub use Rattle.ptb_expr.specs.Evaluation.{expression_there, variable_there, IsTarget}
 pub use Rattle.ptb_expr.specs.Reading.{item_of, expression}
 pub use Rattle.ptb_expr.specs.Translation.{IsMalformed, HasNoValue}
 pub use Rattle.ptb_expr.specs.Tree.{Tree, Bad, Elem}
@@ -44,7 +44,7 @@ pub use Rattle.ptb_command.specs.CommandIo.{due_trace, SameBorrows, SameDevices}
 pub use Rattle.ptb_command.specs.Configuration.{Configuration}
 pub use Rattle.ptb_command.specs.Devices.{Devices, with_choices, refused_answers, nothing_refused, refused_by}
 pub use Rattle.ptb_command.specs.Devices.{screen_state, with_screen}
-pub use Rattle.ptb_command.specs.Executed.{IsExecuted, code_of}
+pub use Rattle.ptb_command.specs.ExecutedCommands.{IsExecuted, code_of}
 pub use Rattle.ptb_command.specs.Execution.{Finishes, FinishesAsking}
 pub use Rattle.ptb_command.specs.Loops.{loop_of_open, AddsStep}
 pub use Rattle.ptb_command.specs.Reports.{IsShown}

@@ -9,9 +9,9 @@ use Rattle.ptb_text.specs.declared.word.Table.TheVariants.{Commands}
 use Rattle.ptb_text.specs.declared.word.Word.{Word}
 use Rattle.ptb_text.specs.declared.word.Word.TheVariants.{LetKw}
 use Rattle.ptb_text.specs.Words.{word_at, token_at, letter_at}
-use Rattle.ptb_text.specs.Finding.{LiesAhead}
+use Rattle.ptb_text.specs.FoundParts.{LiesAhead}
 use Rattle.ptb_expr.specs.Reading.{Reading}
-use Rattle.ptb_expr.specs.Evaluate.{IsWhole}
+use Rattle.ptb_expr.specs.Evaluation.{IsWhole}
 use Rattle.ptb_command.specs.Commands.{Part, command_ends, parts_of, command_of, command_at}
 
 pub record IsRead {A : Type 0} (t : List ℕ) (i : ℕ) (r : Reading A) (j : ℕ) : Type 0 where

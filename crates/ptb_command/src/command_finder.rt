@@ -6,7 +6,7 @@ ghost use Rattle.ptb_command.specs.State.{Place, next_command};
 
 use crate::command_order::command_laws;
 use crate::location::Location;
-use crate::statements::{line_at, place_after};
+use crate::statement_places::{line_at, place_after};
 use ptb_text::{Cursor, Program};
 
 /// The place of the next command's statement, and a cursor at the command's beginning. None where

@@ -7,7 +7,7 @@ use ptb_text::finding_laws;
 
 /// The parts of a command and the commands of a statement are read one after the other, and each
 /// command has a byte place.
-#[tactic(auto, using(crate::proofs::CommandsLawful::command_laws))]
+#[tactic(auto, using(crate::proofs::CommandLaws::command_laws))]
 pub fn command_laws()
     ensures { CommandLaws }
 {

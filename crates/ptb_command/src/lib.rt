@@ -1,6 +1,6 @@
 //! The commands of Tiny BASIC: how they are read, and what they do. A command is read once into code
 //! (`translation.rt`, `operation.rt`, `command_code.rt`). The places at which the commands of a program
-//! begin are found in its text (`statements.rt`, `command_finder.rt`). The code of a command is executed
+//! begin are found in its text (`statement_places.rt`, `command_finder.rt`). The code of a command is executed
 //! (`execution.rt`): it changes the store, the loops and calls that are open (`stack.rt`), and the
 //! place, and it shows, takes and asks.
 //!
@@ -32,7 +32,7 @@ mod registers;
 mod saved_registers;
 mod saved_stack;
 mod stack;
-mod statements;
+mod statement_places;
 mod stop;
 mod translation;
 
@@ -55,6 +55,6 @@ pub use registers::Registers;
 pub use saved_registers::SavedRegisters;
 pub use saved_stack::SavedStack;
 pub use stack::{NESTING_LIMIT, OpenLoop, Stack};
-pub use statements::{first_place, is_zero, line_at, place_after, start_of};
+pub use statement_places::{first_place, is_zero, line_at, place_after, start_of};
 pub use stop::Stop;
 pub use translation::translate;

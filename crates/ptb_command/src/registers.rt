@@ -9,7 +9,7 @@ ghost use Rattle.ptb_command.specs.State.{first_state};
 use crate::command_order::command_laws;
 use crate::location::Location;
 use crate::stack::Stack;
-use crate::statements::first_place;
+use crate::statement_places::first_place;
 use ptb_expr::Store;
 use ptb_text::Program;
 use std::alloc::{AllocError, Global};

@@ -9,7 +9,7 @@ use Rattle.ptb_answers.specs.Outcome.{Answers, bounds, is_open}
 use Rattle.ptb_text.specs.Statements.{StoredProgram}
 use Rattle.ptb_machine.specs.Play.{play}
 use Rattle.ptb_explore.specs.MarkedRuns.{states_bounds}
-use Rattle.ptb_explore.proofs.Stated.{states_begun}
+use Rattle.ptb_explore.proofs.StatedBounds.{states_begun}
 
 -- The plan is the answers of the list.
 module _ (p : StoredProgram) (input : List (List ℕ)) (rules : Rules) (list : List Marked) (plan : Answers)

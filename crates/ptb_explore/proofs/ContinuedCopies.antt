@@ -11,7 +11,7 @@ use Rattle.ptb_answers.specs.Choices.{Choices}
 use Rattle.ptb_devices.specs.Sources.{LineList}
 use Rattle.ptb_command.specs.Configuration.{Configuration}
 use Rattle.ptb_machine.specs.Play.{play}
-use Rattle.ptb_answers.specs.Asked.{answers_in, bounds_in}
+use Rattle.ptb_answers.specs.AskedQuestions.{answers_in, bounds_in}
 use Rattle.ptb_explore.specs.declared.copies.KeptCopy.{KeptCopy}
 use Rattle.ptb_explore.specs.declared.plan.ListingPosition.{ListingPosition}
 use Rattle.ptb_explore.specs.declared.plan.ListingPosition.TheVariants.{AtStart, AtRun, AtEnd}
@@ -22,9 +22,9 @@ use Rattle.ptb_explore.specs.Copies.{more_played}
 use Rattle.ptb_explore.specs.Explorations.{AreCopiesAt, AreKeptAt}
 use Rattle.ptb_explore.specs.PlannedPlays.{IsRunPrefix}
 use Rattle.ptb_explore.specs.Plans.{IsPosition, PlansNext, front_at}
-use Rattle.ptb_explore.proofs.Keep.{GoesOn, agreed_bounds, agreed_len, agreed_taken}
-use Rattle.ptb_explore.proofs.Keep.{kept_beginnings, kept_none, kept_places, kept_same}
-use Rattle.ptb_explore.proofs.Keep.{stands_machine, steps_after}
+use Rattle.ptb_explore.proofs.KeptCopies.{GoesOn, agreed_bounds, agreed_len, agreed_taken}
+use Rattle.ptb_explore.proofs.KeptCopies.{kept_beginnings, kept_none, kept_places, kept_same}
+use Rattle.ptb_explore.proofs.KeptCopies.{stands_machine, steps_after}
 use Rattle.ptb_explore.proofs.RaisedAnswers.{plan_begins}
 use Rattle.ptb_explore.proofs.RunPrefix.{prefix_to}
 

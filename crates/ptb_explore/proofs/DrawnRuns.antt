@@ -11,7 +11,7 @@ use Rattle.ptb_answers.specs.AnswerText.{items_in}
 use Rattle.ptb_answers.specs.Choices.{Choices}
 use Rattle.ptb_answers.specs.Outcome.{Answers, Outcome, Done, IsReader, bounds, is_whole}
 use Rattle.ptb_answers.specs.Seeds.{RefusedForMemory, SeededAnswers, drawn_from, generator_after, seeded_choices}
-use Rattle.ptb_answers.specs.Drawn.{answers_by}
+use Rattle.ptb_answers.specs.DrawnAnswers.{answers_by}
 use Rattle.ptb_answers.proofs.PublicLemmas.{drawn_alone, length-drawn, same_generator}
 use Rattle.ptb_command.specs.declared.ending.Ending.{Ending}
 use Rattle.ptb_command.specs.declared.ending.Ending.TheVariants as endings
@@ -27,7 +27,7 @@ use Rattle.ptb_explore.specs.ReportText.{report_text}
 use Rattle.ptb_explore.specs.PlannedPlays.{Holds, IsRunPrefix}
 use Rattle.ptb_explore.specs.Report.{report, report_of}
 use Rattle.ptb_machine.specs.EndingWords.{ending_word}
-use Rattle.ptb_explore.specs.Sampling.{PlaysDrawn, WritesRun}
+use Rattle.ptb_explore.specs.Samples.{PlaysDrawn, WritesRun}
 use Rattle.ptb_text.specs.declared.device_fault.DeviceFault.{DeviceFault}
 use Rattle.ptb_explore.proofs.RunPrefix.{ends_dry, ends_so, text_state}
 

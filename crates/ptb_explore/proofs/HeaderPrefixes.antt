@@ -16,7 +16,7 @@ use Rattle.ptb_answers.specs.declared.form.Form.TheVariants.{One, Two}
 use Rattle.ptb_answers.specs.declared.form.Marked.{Marked}
 use Rattle.ptb_answers.specs.AnswerText.{in_form, item_text, more_spelling, spelling}
 use Rattle.ptb_explore.specs.declared.kept_items.KeptItem.{KeptItem}
-use Rattle.ptb_explore.specs.Begun.{joined_items, begun, marked_of, marked_items, AreEnds, BeginsWith}
+use Rattle.ptb_explore.specs.ReportHeaders.{joined_items, begun, marked_of, marked_items, AreEnds, BeginsWith}
 use Rattle.ptb_explore.specs.ReportText.{report_ending, report_text}
 use Rattle.ptb_machine.specs.EndingWords.{field}
 use Rattle.ptb_explore.proofs.ReportText.{comma_and}

@@ -24,7 +24,7 @@ use Rattle.ptb_machine.specs.RunTree.{IsRun}
 use Rattle.ptb_explore.proofs.Attempt.{run_opens}
 use Rattle.ptb_machine.proofs.PublicLemmas.{length-bounds, bounds-append}
 use Rattle.ptb_explore.proofs.Order.{same_is}
-use Rattle.ptb_explore.proofs.Stated.{states_begun}
+use Rattle.ptb_explore.proofs.StatedBounds.{states_begun}
 use Rattle.ptb_explore.proofs.Tree.{next_asks, run_asks}
 
 -- ---- what is seen of a play of a list

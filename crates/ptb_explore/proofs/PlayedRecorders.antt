@@ -9,8 +9,8 @@ use Rattle.std.specs.Prelude.{ℤ, pos}
 use Rattle.ptb_answers.specs.Choices.{Choices}
 use Rattle.ptb_answers.specs.Outcome.{Answers, Outcome, Done, IsReader, is_open, is_whole, bounds, bounds_after}
 use Rattle.ptb_machine.proofs.PublicLemmas.{every_ending}
-use Rattle.ptb_explore.proofs.Recorded.{given_len, recorded_len, whole_bounds}
-use Rattle.ptb_answers.specs.Asked.{bounds_in}
+use Rattle.ptb_explore.proofs.RecordedAnswers.{given_len, recorded_len, whole_bounds}
+use Rattle.ptb_answers.specs.AskedQuestions.{bounds_in}
 use Rattle.ptb_explore.specs.declared.recorder.Recorder.{Recorder}
 use Rattle.ptb_machine.specs.RunTree.{IsRun}
 use Rattle.ptb_explore.specs.Plans.{IsFresh, PlanEndsWith}

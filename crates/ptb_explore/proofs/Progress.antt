@@ -11,7 +11,7 @@ use Rattle.ptb_text.specs.Device.{TakesSome}
 use Rattle.ptb_answers.specs.Outcome.{Answers, Outcome, IsReader}
 use Rattle.ptb_machine.specs.RunTree.{Front, At, End, IsNextRun, IsLast, runs_after, runs_left}
 use Rattle.ptb_explore.specs.Listing.{less_one, text, front_after, count_of, WritesList, WritesSome, WritesInto}
-use Rattle.ptb_explore.proofs.Next.{left_next, left_none, none_left}
+use Rattle.ptb_explore.proofs.NextRuns.{left_next, left_none, none_left}
 
 after_push : (f : Front) (done : List Answers) (a : Answers) → front_after f (done ++ a ∷ []) ≡ At a
 after_push f [] a = refl

@@ -19,7 +19,7 @@ use Rattle.ptb_explore.specs.Copies.{Agrees, GoesBack, GoesBackTo, WentBack, las
 use Rattle.ptb_explore.specs.Plans.{IsFresh}
 use Rattle.ptb_explore.specs.PlannedPlays.{IsRunPrefix}
 use Rattle.ptb_explore.specs.Recorders.{recorder_choices, recorded}
-use Rattle.ptb_explore.proofs.Recorded.{fresh_bounds}
+use Rattle.ptb_explore.proofs.RecordedAnswers.{fresh_bounds}
 use Rattle.ptb_explore.proofs.RunPrefix.{run_prefix_at_first}
 use Rattle.ptb_explore.proofs.PlayedRecorders.{fresh_plan}
 

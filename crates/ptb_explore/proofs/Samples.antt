@@ -16,11 +16,11 @@ use Rattle.ptb_text.specs.declared.device_fault.DeviceFault.TheVariants as next
 use Rattle.ptb_devices.specs.Screens.{IsScreenFault}
 use Rattle.ptb_answers.specs.Outcome.{Answers, Outcome, IsReader, bounds}
 use Rattle.ptb_answers.specs.Seeds.{drawn_from, generator_after}
-use Rattle.ptb_answers.specs.Drawn.{IsDrawnFrom, answers_by, sampled_runs}
+use Rattle.ptb_answers.specs.DrawnAnswers.{IsDrawnFrom, answers_by, sampled_runs}
 use Rattle.ptb_answers.proofs.PublicLemmas.{answers_by-drawn, drawn_alone, after_sum, drawn_append}
 use Rattle.ptb_explore.specs.Listing.{fault_after, text}
 use Rattle.ptb_machine.specs.RunTree.{IsRun}
-use Rattle.ptb_explore.specs.Sampling.{SampleLaws, WritesFirst, WritesPart, WritesRun, WritesSample, concatenated}
+use Rattle.ptb_explore.specs.Samples.{SampleLaws, WritesFirst, WritesPart, WritesRun, WritesSample, concatenated}
 use Rattle.ptb_machine.proofs.PublicLemmas.{length-bounds}
 use Rattle.ptb_explore.proofs.Lists.{IsIn, contained_in}
 

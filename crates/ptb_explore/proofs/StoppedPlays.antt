@@ -18,7 +18,7 @@ use Rattle.ptb_explore.specs.Laws.{TreeLaws}
 use Rattle.ptb_explore.specs.Listing.{text}
 use Rattle.ptb_machine.specs.RunTree.{Front, Start, IsRun, answers_to, is_left, leaves, leaves_of, runs_after, tree}
 use Rattle.ptb_explore.proofs.Lists.{IsIn}
-use Rattle.ptb_explore.proofs.Next.{left_begins}
+use Rattle.ptb_explore.proofs.NextRuns.{left_begins}
 use Rattle.ptb_explore.proofs.Order.{begins_is}
 use Rattle.ptb_explore.proofs.Shares.{question, run_in, text_each}
 use Rattle.ptb_explore.proofs.Tree.{tree_laws}

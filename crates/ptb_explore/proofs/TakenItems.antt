@@ -11,7 +11,7 @@ use Rattle.ptb_answers.specs.Outcome.{Answers, Outcome, Done, IsReader, is_open,
 use Rattle.ptb_command.specs.declared.ending.Ending.{Ending}
 use Rattle.ptb_command.specs.declared.ending.Ending.TheVariants as endings
 use Rattle.ptb_machine.specs.Play.{Finish}
-use Rattle.ptb_explore.proofs.Recorded.{recorded_len}
+use Rattle.ptb_explore.proofs.RecordedAnswers.{recorded_len}
 use Rattle.ptb_explore.specs.declared.recorder.Recorder.{Recorder}
 use Rattle.ptb_explore.specs.Mismatch.{IsOutOfRange, IsOver, TakesItems}
 use Rattle.ptb_explore.specs.MarkedRuns.{states_bounds}

@@ -19,7 +19,7 @@ use Rattle.ptb_answers.specs.declared.form.Form.{Form}
 use Rattle.ptb_answers.specs.declared.rules.Rules.{Rules}
 use Rattle.ptb_machine.specs.Play.{Finish, play}
 use Rattle.ptb_explore.specs.ReportText.{list_line}
-use Rattle.ptb_answers.specs.Asked.{answers_in, bounds_in}
+use Rattle.ptb_answers.specs.AskedQuestions.{answers_in, bounds_in}
 use Rattle.ptb_explore.specs.declared.report.Report.{Report}
 use Rattle.ptb_explore.specs.Listing.{text}
 use Rattle.ptb_machine.specs.RunTree.{Front, Start, At, End, IsLast, IsNextRun, IsRising, IsRun, runs_after, tree}

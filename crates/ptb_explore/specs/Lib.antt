@@ -1,5 +1,5 @@
 -- This file names the files of definitions.
-pub mod Begun
+pub mod ReportHeaders
 pub mod ReportText
 pub mod Recorders
 pub mod Plans
@@ -14,5 +14,5 @@ pub mod LentReports
 pub mod Openings
 pub mod Laws
 pub mod Beginnings
-pub mod Sampling
+pub mod Samples
 pub mod Prelude

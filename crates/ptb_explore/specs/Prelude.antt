@@ -2,8 +2,8 @@
 pub use Rattle.std.specs.Fmt.{signed_decimal}
 pub use Rattle.std.specs.Io.KnownBytes.{Appends}
 pub use Rattle.ptb_answers.specs.AnswerText.{answers_of, unmarked, in_form, item_text}
-pub use Rattle.ptb_answers.specs.Asked.{answers_in, bounds_in}
-pub use Rattle.ptb_answers.specs.Drawn.{answers_by, sampled_runs}
+pub use Rattle.ptb_answers.specs.AskedQuestions.{answers_in, bounds_in}
+pub use Rattle.ptb_answers.specs.DrawnAnswers.{answers_by, sampled_runs}
 pub use Rattle.ptb_answers.specs.Outcome.{Answers, bounds as bounds_of, is_open, Outcome, IsReader}
 pub use Rattle.ptb_answers.specs.Seeds.{generator_after, generator_of}
 pub use Rattle.ptb_answers.specs.declared.rules.Rules.{Rules}
@@ -14,7 +14,7 @@ pub use Rattle.ptb_text.specs.Device.{HasFailed, TakesSome}
 pub use Rattle.ptb_text.specs.Statements.{StoredProgram}
 pub use Rattle.ptb_explore.specs.Beginnings.{beginning_line, split_play, stopped, FindsBeginning, IsSameSearch, MovesTo}
 pub use Rattle.ptb_explore.specs.Beginnings.{BeginningLaws}
-pub use Rattle.ptb_explore.specs.Begun.{begun, marked_of, marked_items, AreEnds, BeginsWith}
+pub use Rattle.ptb_explore.specs.ReportHeaders.{begun, marked_of, marked_items, AreEnds, BeginsWith}
 pub use Rattle.ptb_explore.specs.Copies.{Agrees, AreCopies, PlaysOn, kept_runs, AreBeginnings, more_played, play_limit}
 pub use Rattle.ptb_explore.specs.Copies.{WentBack, last_steps}
 pub use Rattle.ptb_explore.specs.Explorations.{AreCopiesAt, HasRunCopies, IsSameGame, NextPlays, game_of, play_of}
@@ -34,4 +34,4 @@ pub use Rattle.ptb_explore.specs.ReportText.{asked_items, list_line, report_endi
 pub use Rattle.ptb_machine.specs.EndingWords.{ending_word, field}
 pub use Rattle.ptb_explore.specs.ReportText.{WritesText}
 pub use Rattle.ptb_machine.specs.RunTree.{At, IsLast, Start, runs_left, tree, IsNextRun, IsRun, begins_with}
-pub use Rattle.ptb_explore.specs.Sampling.{SampleLaws, PlaysDrawn, WritesRun, WritesSample}
+pub use Rattle.ptb_explore.specs.Samples.{SampleLaws, PlaysDrawn, WritesRun, WritesSample}

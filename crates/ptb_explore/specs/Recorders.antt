@@ -8,7 +8,7 @@ use Rattle.std.specs.Prelude.{◌≡◌, List, ◌∷◌, ◌++◌, length, take
 use Rattle.ptb_answers.specs.declared.pause.Pause.{Pause}
 use Rattle.ptb_answers.specs.declared.pause.Pause.TheVariants.{Ended, OutOfRange, Memory}
 use Rattle.ptb_answers.specs.Outcome.{Answers, is_answer}
-use Rattle.ptb_answers.specs.Asked.{answers_in, bounds_in}
+use Rattle.ptb_answers.specs.AskedQuestions.{answers_in, bounds_in}
 use Rattle.ptb_answers.specs.Choices.{Choices}
 use Rattle.ptb_explore.specs.declared.recorder.Recorder.{Recorder}
 

@@ -15,7 +15,7 @@ use Rattle.ptb_text.specs.declared.device_fault.DeviceFault.TheVariants.{Write}
 use Rattle.ptb_answers.specs.declared.asked.Asked.{Asked}
 use Rattle.ptb_answers.specs.declared.form.Form.{Form}
 use Rattle.ptb_answers.specs.declared.form.Marked.{Marked}
-use Rattle.ptb_answers.specs.Asked.{answers_in, bounds_in}
+use Rattle.ptb_answers.specs.AskedQuestions.{answers_in, bounds_in}
 use Rattle.ptb_answers.specs.AnswerText.{items_in, spelling}
 use Rattle.ptb_machine.specs.EndingWords.{field}
 use Rattle.ptb_explore.specs.declared.report_text.Parts.{Parts}

@@ -37,7 +37,7 @@ pub struct Beginnings<'a> {
 impl<'a> Model for Beginnings<'a> {
     ghost use Rattle.std.specs.Prelude.{[]};
     ghost use Rattle.std.specs.Coded.{codes};
-    ghost use Rattle.ptb_answers.specs.Asked.{answers_in, bounds_in};
+    ghost use Rattle.ptb_answers.specs.AskedQuestions.{answers_in, bounds_in};
     ghost use Rattle.ptb_answers.specs.contracts.rules.Rules as rules_type;
     ghost use Rattle.ptb_explore.specs.Beginnings.{Splitting, stopped};
     ghost use Rattle.ptb_explore.specs.Explorations.{AreCopiesAt, game_of};

@@ -2,7 +2,7 @@
 
 ghost use Rattle.std.specs.Prelude.{◌≡◌, ◌≤◌, Ok, None, length};
 ghost use Rattle.std.specs.Prelude.{IfOk, IfSome, IfNone};
-ghost use Rattle.ptb_answers.specs.Asked.{answers_in};
+ghost use Rattle.ptb_answers.specs.AskedQuestions.{answers_in};
 ghost use Rattle.ptb_explore.specs.Explorations.{play_of, most_of, Reports};
 ghost use Rattle.ptb_machine.specs.RunTree.{IsNextRun, IsLast};
 
@@ -33,7 +33,7 @@ pub struct Explorer<'a> {
 impl<'a> Model for Explorer<'a> {
     ghost use Rattle.std.specs.Coded.{codes};
     ghost use Rattle.ptb_answers.specs.AnswerText.{answers_of};
-    ghost use Rattle.ptb_answers.specs.Asked.{answers_in, bounds_in};
+    ghost use Rattle.ptb_answers.specs.AskedQuestions.{answers_in, bounds_in};
     ghost use Rattle.ptb_answers.specs.contracts.rules.Rules as rules_type;
     ghost use Rattle.ptb_explore.specs.Copies.{kept_runs};
     ghost use Rattle.ptb_explore.specs.Explorations.{Exploration, exploration, AreCopiesAt, game_of};

@@ -3,7 +3,7 @@
 ghost use Rattle.std.specs.Prelude.{◌≡◌, ◌+◌, ◌-◌, ◌<◌, ◌≤◌, pos, OnOk};
 ghost use Rattle.std.specs.Prelude.{[], ◌∷◌, ◌++◌, length, take, replicate, vec_len};
 ghost use Rattle.ptb_answers.specs.AnswerText.{answers_of};
-ghost use Rattle.ptb_answers.specs.Asked.{answers_in};
+ghost use Rattle.ptb_answers.specs.AskedQuestions.{answers_in};
 
 use ptb_answers::{Asked, Chooser, Marked, Pause};
 use std::alloc::{AllocError, Global};

@@ -12,12 +12,12 @@ mod Zeros
 mod WithZeros
 mod ValueReads
 mod TreeSteps
-mod Written
+mod WrittenTrees
 mod PlainSteps
 mod AddedSteps
 mod ReadParts
 mod Starts
 mod Runs
-mod Coded
+mod CodedTrees
 mod TranslatedTrees
 mod ShortForms

@@ -6,7 +6,7 @@ use Rattle.std.specs.Prelude.{int_le, if◌then◌else◌}
 use Rattle.ptb_text.specs.declared.word.Number.TheVariants.{TooBig}
 use Rattle.ptb_text.specs.declared.word.Table.TheVariants.{Functions}
 use Rattle.ptb_text.specs.declared.word.Word.TheVariants.{RndKw, AbsKw}
-use Rattle.ptb_text.specs.Finding.{LiesAhead, FindingLaws}
+use Rattle.ptb_text.specs.FoundParts.{LiesAhead, FindingLaws}
 use Rattle.ptb_expr.specs.declared.fault.Fault.{Fault}
 use Rattle.ptb_expr.specs.declared.fault.FaultKind.{FaultKind}
 use Rattle.ptb_expr.specs.declared.fault.FaultKind.TheVariants.{What, How}

@@ -10,7 +10,7 @@ use Rattle.ptb_text.specs.declared.word.Table.TheVariants.{Functions}
 use Rattle.ptb_text.specs.declared.word.Word.{Word}
 use Rattle.ptb_text.specs.declared.word.Word.TheVariants.{RndKw, AbsKw, SizeKw}
 use Rattle.ptb_text.specs.Words.{token_at, pair_at, letter_at, word_at, number_at}
-use Rattle.ptb_text.specs.Finding.{LiesAhead, FindingLaws}
+use Rattle.ptb_text.specs.FoundParts.{LiesAhead, FindingLaws}
 use Rattle.ptb_expr.specs.declared.fault.FaultKind.TheVariants.{How}
 use Rattle.ptb_expr.specs.declared.operator.Operator.{Operator}
 use Rattle.ptb_expr.specs.declared.operator.Operator.TheVariants.{Plus, Minus, Multiply, Divide}

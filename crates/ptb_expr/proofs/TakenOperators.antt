@@ -9,7 +9,7 @@ use Rattle.ptb_text.specs.Digits.{is_digit}
 use Rattle.ptb_text.specs.declared.word.Number.TheVariants.{Value}
 use Rattle.ptb_text.specs.Words.{past_blanks, next_byte_at, letter_at, number_at, is_number, is_over}
 use Rattle.ptb_text.specs.Words.{token_at, pair_at, word_at, is_letter}
-use Rattle.ptb_text.specs.Finding.{IsNextToken, FindingLaws, is_next, past_byte}
+use Rattle.ptb_text.specs.FoundParts.{IsNextToken, FindingLaws, is_next, past_byte}
 use Rattle.ptb_expr.specs.declared.operator.Operator.TheVariants.{Plus, Minus, Multiply, Divide}
 use Rattle.ptb_expr.specs.declared.operator.Operator.TheVariants.{GreaterEqual, NotEqual, Greater}
 use Rattle.ptb_expr.specs.declared.operator.Operator.TheVariants.{Equals, LessEqual, Less}

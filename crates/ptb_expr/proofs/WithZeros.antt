@@ -7,7 +7,7 @@ use Rattle.std.proofs.lemmas.List.{drop-append-le, length-append, length-drop}
 use Rattle.std.proofs.lemmas.List.{replicate-append-replicate, take-append-drop, take-append-le}
 use Rattle.std.proofs.lemmas.List.{take-replicate, take_at, drop_at}
 use Rattle.std.proofs.lemmas.Slice.{drop-append-drop}
-use Rattle.ptb_expr.specs.Saved.{with_zeros}
+use Rattle.ptb_expr.specs.SavedStores.{with_zeros}
 use Rattle.ptb_expr.specs.Store.{Cells, IsZeroFrom}
 use Rattle.ptb_expr.proofs.Zeros.{zeros_after}
 

@@ -2,12 +2,12 @@
 pub use Rattle.std.specs.Prelude.{List, ℕ, length, option_map}
 pub use Rattle.ptb_answers.specs.Outcome.{is_answer}
 pub use Rattle.ptb_text.specs.CursorState.{bytes_left}
-pub use Rattle.ptb_text.specs.Finding.{LiesAhead, IsNextToken, past_byte}
+pub use Rattle.ptb_text.specs.FoundParts.{LiesAhead, IsNextToken, past_byte}
 pub use Rattle.ptb_text.specs.Words.{word_at, IsFunction, letter_at, next_byte_at, token_at}
 pub use Rattle.ptb_text.specs.declared.word.Table.TheVariants.{Functions}
 pub use Rattle.ptb_expr.specs.ReadSteps.{ReadsSteps, FailsSteps, operand_steps}
-pub use Rattle.ptb_expr.specs.Evaluate.{Evaluates, IsEvaluated, IsMarkedWithin, IsTarget, IsWhole, variable_target}
-pub use Rattle.ptb_expr.specs.Evaluate.{variable_there, expression_there}
+pub use Rattle.ptb_expr.specs.Evaluation.{Evaluates, IsEvaluated, IsMarkedWithin, IsTarget, IsWhole, variable_target}
+pub use Rattle.ptb_expr.specs.Evaluation.{variable_there, expression_there}
 pub use Rattle.ptb_expr.specs.Operators.{product_operator, sum_operator, comparison}
 pub use Rattle.ptb_expr.specs.Reading.{item_of}
 pub use Rattle.ptb_expr.specs.Spells.{Spells, Variable, Expr, Sum, First, Product, Factor, Paren}

@@ -6,7 +6,7 @@ use Rattle.ptb_text.specs.declared.word.Number.TheVariants.{Absent, Value, TooBi
 use Rattle.ptb_text.specs.declared.word.Table.TheVariants.{Functions}
 use Rattle.ptb_text.specs.declared.word.Word.TheVariants.{RndKw, AbsKw, SizeKw}
 use Rattle.ptb_text.specs.Words.{token_at, letter_at, word_at, number_at}
-use Rattle.ptb_text.specs.Finding.{LiesAhead}
+use Rattle.ptb_text.specs.FoundParts.{LiesAhead}
 use Rattle.ptb_expr.specs.declared.fault.FaultKind.TheVariants.{How}
 use Rattle.ptb_expr.specs.declared.operator.Operator.{Operator}
 use Rattle.ptb_expr.specs.Operators.{product_operator, sum_operator, comparison}

@@ -2,7 +2,7 @@
 
 ghost use Rattle.std.specs.Prelude.{◌≡◌, ◌≤◌, ◌↔◌, ℕ, length, pos, replicate, IsOk, IsTrue};
 ghost use Rattle.std.specs.Prelude.{OnOk, OnErr};
-ghost use Rattle.ptb_expr.specs.Saved.{with_zeros};
+ghost use Rattle.ptb_expr.specs.SavedStores.{with_zeros};
 ghost use Rattle.ptb_expr.specs.Store.{IsZeroFrom, empty_cells};
 
 use crate::store::{Store, mixed};
@@ -20,7 +20,7 @@ pub struct SavedStore {
 
 impl Model for SavedStore {
     ghost use Rattle.std.specs.Prelude.{◌≡◌, ◌+◌, ◌/◌, ◌≤◌, pos, ◌≤ℤ◌, length, unsigned_abs, vec_len};
-    ghost use Rattle.ptb_expr.specs.Saved.{with_zeros};
+    ghost use Rattle.ptb_expr.specs.SavedStores.{with_zeros};
     ghost use Rattle.ptb_expr.specs.Store.{Cells};
 
     ghost Value = { Cells };

@@ -23,8 +23,8 @@ use Rattle.ptb_command.specs.Effects.{act_state, CommandChange}
 use Rattle.ptb_command.proofs.PublicLemmas.{act_keeps}
 use Rattle.ptb_machine.proofs.Budgets.{Budget, wider_budget, done_budget, map_budget}
 use Rattle.ptb_machine.proofs.SpentAnswers.{left_for, Spends, wider_spends, then_spends, lines_cost, later}
-use Rattle.ptb_machine.proofs.PartsSpend.{parts_questions, parts_spends}
-use Rattle.ptb_machine.proofs.EndSpends.{finish_spends}
+use Rattle.ptb_machine.proofs.PartAnswers.{parts_questions, parts_spends}
+use Rattle.ptb_machine.proofs.EndAnswers.{finish_spends}
 use Rattle.ptb_machine.proofs.ProgramQuestions.{program_rnds, next_questions}
 
 -- ---- turns

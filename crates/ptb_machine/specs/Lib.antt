@@ -22,6 +22,6 @@ pub mod Runs
 pub mod RunEffects
 pub mod Streams
 pub mod PlainRuns
-pub mod Noted
+pub mod MemoryNotes
 pub mod SeededRuns
 pub mod Prelude

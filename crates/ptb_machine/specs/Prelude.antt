@@ -1,10 +1,10 @@
 -- This file passes on the definitions that the clauses of this crate cite most. It declares nothing.
 pub use Rattle.ptb_answers.specs.Outcome.{success}
-pub use Rattle.ptb_expr.specs.Short.{IsShortOf}
+pub use Rattle.ptb_expr.specs.ShortValues.{IsShortOf}
 pub use Rattle.ptb_expr.specs.Store.{Cells}
 pub use Rattle.ptb_expr.specs.TreeSteps.{run}
 pub use Rattle.ptb_expr.specs.declared.short_value.ShortValue.{ShortValue}
-pub use Rattle.ptb_text.specs.Finding.{LiesAhead}
+pub use Rattle.ptb_text.specs.FoundParts.{LiesAhead}
 pub use Rattle.ptb_text.specs.Statements.{Statements, StoredProgram, size_of}
 pub use Rattle.ptb_text.specs.Words.{is_over}
 pub use Rattle.ptb_command.specs.State.{statement, first_state, next_command, Place}
@@ -12,9 +12,9 @@ pub use Rattle.ptb_command.specs.Act.{ending_of, report_bytes}
 pub use Rattle.ptb_command.specs.Code.{steps_at, Code}
 pub use Rattle.ptb_command.specs.CommandIo.{SameBorrows}
 pub use Rattle.ptb_command.specs.Devices.{Devices, screen_state, with_screen}
-pub use Rattle.ptb_command.specs.Executed.{code_of}
+pub use Rattle.ptb_command.specs.ExecutedCommands.{code_of}
 pub use Rattle.ptb_command.specs.Execution.{ContinuesAt}
-pub use Rattle.ptb_command.specs.Plain.{DoesPlainly, AreDone}
+pub use Rattle.ptb_command.specs.PlainCommands.{DoesPlainly, AreDone}
 pub use Rattle.ptb_command.specs.Reports.{IsShown}
 pub use Rattle.ptb_command.specs.Locations.{PlacesAre, NextIs}
 pub use Rattle.ptb_command.specs.Representation.{Represents}

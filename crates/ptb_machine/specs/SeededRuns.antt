@@ -8,7 +8,7 @@ use Rattle.std.specs.Prelude.{◌≡◌, ℕ, List}
 use Rattle.ptb_text.specs.Statements.{StoredProgram}
 use Rattle.ptb_answers.specs.Outcome.{Answers, Outcome}
 use Rattle.ptb_answers.specs.Seeds.{generator_of}
-use Rattle.ptb_answers.specs.Drawn.{IsDrawnFrom, answers_by}
+use Rattle.ptb_answers.specs.DrawnAnswers.{IsDrawnFrom, answers_by}
 use Rattle.ptb_command.specs.declared.ending.Ending.{Ending}
 use Rattle.ptb_answers.specs.declared.rules.Rules.{Rules}
 use Rattle.ptb_machine.specs.Play.{play, plain}

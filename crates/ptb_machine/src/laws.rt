@@ -7,14 +7,14 @@ ghost use Rattle.ptb_machine.specs.SeededRuns.{SeededLaws};
 use ptb_expr::value_laws;
 
 /// What was shown stays shown, a command is one step, and no loop or call opens past the limit.
-#[tactic(auto, using(crate::proofs::Lawful::effect_laws))]
+#[tactic(auto, using(crate::proofs::RunLaws::effect_laws))]
 pub fn effect_laws()
     ensures { EffectLaws }
 {}
 
 /// A run is one turn and then the turns after it, its commands are at most as many as its limit
 /// says, and it takes its answers one by one.
-#[tactic(auto, using(crate::proofs::Lawful::run_laws))]
+#[tactic(auto, using(crate::proofs::RunLaws::run_laws))]
 pub fn run_laws()
     ensures { RunLaws }
 {
@@ -32,7 +32,7 @@ pub fn ending_laws()
 /// A seed gives one run of each program on each input, by any rules: each of its answers is drawn by
 /// the next word of the seed's generator for the bound of its question. No other list of answers is
 /// drawn so.
-#[tactic(auto, using(crate::proofs::Drawn::seeded_laws))]
+#[tactic(auto, using(crate::proofs::DrawnAnswers::seeded_laws))]
 pub fn seeded_laws()
     ensures { SeededLaws }
 {

@@ -20,6 +20,7 @@
 mod complete_run;
 mod ending_word;
 mod fault;
+mod fault_report;
 mod laws;
 mod machine;
 mod memory_note;
@@ -27,7 +28,6 @@ mod plain_run;
 mod player;
 mod program_code;
 mod program_translation;
-mod reports;
 mod run_end;
 mod saved_machine;
 mod short_forms;
@@ -36,6 +36,7 @@ mod stop_result;
 pub use complete_run::{run, run_to_end};
 pub use ending_word::word;
 pub use fault::RunFault;
+pub use fault_report::report;
 pub use laws::{effect_laws, ending_laws, run_laws, seeded_laws};
 pub use machine::Machine;
 pub use plain_run::{run_plain, run_plain_to_end, run_seeded, run_seeded_to_end};
@@ -49,6 +50,5 @@ pub use ptb_command::{
 pub use ptb_devices::{Line, Lines, ReaderLines, TextScreen, WriterScreen, read_lines};
 // No crate of the program imports these two: they are for users of the library who have devices of their own.
 pub use ptb_devices::{LineSource, Screen};
-pub use reports::report;
 pub use run_end::RunEnd;
 pub use saved_machine::SavedMachine;

@@ -2,7 +2,7 @@
 
 ghost use Rattle.std.specs.Prelude.{◌≡◌, IfOk, Ok, false};
 ghost use Rattle.ptb_machine.specs.Runs.{ending_alone};
-ghost use Rattle.ptb_machine.specs.Noted.{noted, noted_result};
+ghost use Rattle.ptb_machine.specs.MemoryNotes.{noted, noted_result};
 
 use crate::fault::RunFault;
 use crate::run_end::RunEnd;

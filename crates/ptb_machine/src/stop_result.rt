@@ -6,7 +6,7 @@ ghost use Rattle.ptb_command.specs.CommandIo.{io_trace, SameDevices};
 ghost use Rattle.ptb_machine.specs.CommandResults.{IsResultOf, result_of_stop};
 
 use crate::fault::RunFault;
-use crate::reports::{ending_of, report};
+use crate::fault_report::{ending_of, report};
 use ptb_answers::{Chooser, Pause};
 use ptb_command::{CommandIo, Ending, Stop, line_at};
 use ptb_devices::{LineSource, Screen};

@@ -20,7 +20,7 @@ use Rattle.ptb_options.specs.declared.usage.UsageFault.TheVariants.{BadList, Mem
 use Rattle.ptb_options.specs.Options.{Asks, AsksMode, HasBound, HasMemorySize, IsFirstMisspelled}
 use Rattle.ptb_options.specs.Options.{Options, RefusesOptions, LacksMemory, clash, clashes, first_fault}
 use Rattle.ptb_options.specs.Options.{IsRulesOf, default_memory, default_steps}
-use Rattle.ptb_options.proofs.ListsKept.{first_misspelled}
+use Rattle.ptb_options.proofs.KeptLists.{first_misspelled}
 
 -- ---- options that clash
 

@@ -5,7 +5,7 @@ mod ReadItems
 mod ItemWords
 mod ListFaults
 mod ListReturns
-mod ListsKept
+mod KeptLists
 mod NumberRanges
 mod OptionReads
 mod ListedArgs

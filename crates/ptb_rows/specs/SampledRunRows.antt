@@ -4,7 +4,7 @@
 use Rattle.std.specs.Prelude.{◌≡◌, ℕ, [], ◌∷◌, codes}
 use Rattle.rand_pcg.specs.Pcg.{pcg32}
 use Rattle.ptb_answers.specs.Seeds.{generator_after, generator_of}
-use Rattle.ptb_answers.specs.Drawn.{sampled_runs}
+use Rattle.ptb_answers.specs.DrawnAnswers.{sampled_runs}
 use Rattle.ptb_rows.specs.ExpressionRows.{worth}
 use Rattle.ptb_rows.specs.TreeRows.{one, two}
 

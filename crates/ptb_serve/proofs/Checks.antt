@@ -18,12 +18,12 @@ use Rattle.ptb_options.specs.declared.request.Mode.TheVariants as modes
 use Rattle.ptb_options.specs.declared.request.Request.{Request}
 use Rattle.ptb_serve.specs.declared.note.Note.{Note}
 use Rattle.ptb_serve.specs.declared.note.Note.TheVariants as notes
-use Rattle.ptb_serve.specs.Loaded.{IsServedUnread, ServesProgram}
+use Rattle.ptb_serve.specs.LoadedPrograms.{IsServedUnread, ServesProgram}
 use Rattle.ptb_serve.specs.Replies.{check_reply, check_status}
 use Rattle.ptb_serve.specs.ServedRequests.{device_note}
-use Rattle.ptb_serve.proofs.Listed.{text_serves}
+use Rattle.ptb_serve.proofs.ServedListings.{text_serves}
 use Rattle.ptb_serve.proofs.Mismatches.{run_refuses_none, success_refuses_none}
-use Rattle.ptb_serve.proofs.Served.{nothing_told, serves_loaded}
+use Rattle.ptb_serve.proofs.ServedPrograms.{nothing_told, serves_loaded}
 
 module _ (request : Request) (p : StoredProgram) (memory : p.memory ≡ request.memory)
     (old new known : Option (List ℕ)) where

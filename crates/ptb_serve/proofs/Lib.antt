@@ -2,13 +2,13 @@
 mod ReplyLaws
 mod ShareReplies
 mod Fronts
-mod Served
+mod ServedPrograms
 mod PlainRuns
-mod Listed
+mod ServedListings
 mod Mismatches
 mod Promises
 mod WholeInput
-mod Listing
+mod ListingResults
 mod Lines
 mod Samples
 mod Splits

@@ -2,7 +2,7 @@
 -- Main lemma: `run_line`.
 use Rattle.std.proofs.Common.{◌≡◌, ◌∙◌, ℕ, List, Option, Some, None, Result, Ok, Err, IfOk, refl, ap, sym, subst, arith}
 use Rattle.ptb_text.specs.Lines.{input_lines}
-use Rattle.ptb_text.specs.Loading.{IsLoaded}
+use Rattle.ptb_text.specs.ProgramTexts.{IsLoaded}
 use Rattle.ptb_text.specs.Statements.{StoredProgram}
 use Rattle.ptb_answers.specs.Outcome.{Answers}
 use Rattle.ptb_command.specs.declared.ending.Ending.{Ending}
@@ -18,11 +18,11 @@ use Rattle.ptb_machine.specs.PlainRuns.{HasLine}
 use Rattle.ptb_machine.specs.Streams.{Reads}
 use Rattle.ptb_serve.specs.declared.note.Note.{Note}
 use Rattle.ptb_serve.specs.declared.note.Note.TheVariants as notes
-use Rattle.ptb_serve.specs.Loaded.{IsRunStatus, ReportsLine, line_in_mode, end_line}
+use Rattle.ptb_serve.specs.LoadedPrograms.{IsRunStatus, ReportsLine, line_in_mode, end_line}
 use Rattle.ptb_serve.specs.Replies.{program_of_text}
 use Rattle.ptb_serve.specs.ServedRequests.{IsInput, outcome_of}
 use Rattle.ptb_serve.specs.Statuses.{note_status}
-use Rattle.ptb_serve.proofs.Served.{at_known, program_of_text-ok}
+use Rattle.ptb_serve.proofs.ServedPrograms.{at_known, program_of_text-ok}
 
 -- ---- a status that is that of the limit
 

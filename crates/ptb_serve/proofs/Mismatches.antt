@@ -3,7 +3,7 @@
 use Rattle.std.proofs.Common.{◌≡◌, ◌⊎◌, inl, inr, ℕ, List, Option, Some, None, Result, Ok, Err}
 use Rattle.std.proofs.Common.{IfOk, IfSome, IsErrOf, IsSome, refl, ap, sym, subst}
 use Rattle.ptb_text.specs.Lines.{input_lines}
-use Rattle.ptb_text.specs.Loading.{IsLoaded}
+use Rattle.ptb_text.specs.ProgramTexts.{IsLoaded}
 use Rattle.ptb_text.specs.Statements.{StoredProgram}
 use Rattle.ptb_answers.specs.declared.form.Form.{Form}
 use Rattle.ptb_answers.specs.declared.form.Marked.{Marked}
@@ -22,14 +22,14 @@ use Rattle.ptb_serve.specs.declared.note.Note.TheVariants as notes
 use Rattle.ptb_command.specs.declared.ending.Ending.{Ending}
 use Rattle.ptb_machine.specs.declared.fault.RunFault.{RunFault}
 use Rattle.ptb_machine.specs.declared.fault.RunFault.TheVariants as faults
-use Rattle.ptb_serve.specs.Loaded.{IsRunStatus, RefusesListIn, ReportsMismatch}
+use Rattle.ptb_serve.specs.LoadedPrograms.{IsRunStatus, RefusesListIn, ReportsMismatch}
 use Rattle.ptb_serve.specs.ListMismatches.{IsMismatchIn, IsMismatchOf, IsListRefused, IsUnbegun}
 use Rattle.ptb_serve.specs.ListMismatches.{mismatch_note, refused_attempt, unbegun_attempt}
 use Rattle.ptb_serve.specs.Replies.{program_of_text}
 use Rattle.ptb_serve.specs.ServedRequests.{device_note, outcome_of, reports_note}
 use Rattle.ptb_text.specs.declared.device_fault.DeviceFault.{DeviceFault}
-use Rattle.ptb_serve.proofs.Listed.{device_note-beginning, device_note-start}
-use Rattle.ptb_serve.proofs.Served.{at_known, outcome_of-err, outcome_of-note, program_of_text-ok}
+use Rattle.ptb_serve.proofs.ServedListings.{device_note-beginning, device_note-start}
+use Rattle.ptb_serve.proofs.ServedPrograms.{at_known, outcome_of-err, outcome_of-note, program_of_text-ok}
 
 -- nothing is said where no list is refused
 pub none_told : (mode : Mode) (request : Request) (p : StoredProgram) (known : Option (List ℕ)) (result : Result ℕ Note)

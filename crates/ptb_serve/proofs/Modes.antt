@@ -18,13 +18,13 @@ use Rattle.ptb_machine.specs.Runs.{ending_alone}
 use Rattle.ptb_machine.specs.declared.run_end.RunEnd.{RunEnd}
 use Rattle.ptb_machine.specs.PlainRuns.{HasLine, WantsMemory}
 use Rattle.ptb_machine.specs.Streams.{Reads, Writes}
-use Rattle.ptb_serve.specs.Loaded.{IsServed, IsServedIn, IsServedUnread, IsRunStatus, ReadsInput, ServesProgram}
-use Rattle.ptb_serve.specs.Loaded.{ReportsFailures, ReportsLine, ReportsMismatch, line_in_mode, end_line}
+use Rattle.ptb_serve.specs.LoadedPrograms.{IsServed, IsServedIn, IsServedUnread, IsRunStatus, ReadsInput, ServesProgram}
+use Rattle.ptb_serve.specs.LoadedPrograms.{ReportsFailures, ReportsLine, ReportsMismatch, line_in_mode, end_line}
 use Rattle.ptb_machine.specs.SeededRuns.{seeded_answers}
 use Rattle.ptb_serve.specs.ServedRequests.{IsPlainRun, NeedsInput, NeedsWholeInput}
 use Rattle.ptb_serve.proofs.Lines.{none_stopped, run_line}
-use Rattle.ptb_serve.proofs.Listed.{untouched_reads}
-use Rattle.ptb_serve.proofs.Served.{unread}
+use Rattle.ptb_serve.proofs.ServedListings.{untouched_reads}
+use Rattle.ptb_serve.proofs.ServedPrograms.{unread}
 use Rattle.ptb_serve.proofs.Mismatches.{none_told, run_refuses_none}
 use Rattle.ptb_serve.proofs.PlainRuns.{Ran, plain_reads, plain_serves, run_failures, seeded_reads, seeded_serves}
 

@@ -5,7 +5,7 @@ use Rattle.std.proofs.Common.{IfSome, IsErrOf, refl, subst, sym}
 use Rattle.std.specs.Io.KnownBytes.{Appends, Consumes}
 use Rattle.ptb_text.specs.Device.{TakesSome}
 use Rattle.ptb_text.specs.Lines.{input_lines}
-use Rattle.ptb_text.specs.Loading.{IsLoaded}
+use Rattle.ptb_text.specs.ProgramTexts.{IsLoaded}
 use Rattle.ptb_text.specs.Statements.{StoredProgram}
 use Rattle.ptb_command.specs.declared.ending.Ending.{Ending}
 use Rattle.ptb_answers.specs.Outcome.{Answers}
@@ -18,7 +18,7 @@ use Rattle.ptb_options.specs.declared.request.Request.{Request}
 use Rattle.ptb_serve.specs.declared.note.Note.{Note}
 use Rattle.ptb_serve.specs.declared.note.Note.TheVariants as notes
 use Rattle.ptb_serve.specs.declared.service.Outcome.{Outcome}
-use Rattle.ptb_serve.specs.Loaded.{IsRunStatus, ReadsInput, ServesProgram, ReportsFailures}
+use Rattle.ptb_serve.specs.LoadedPrograms.{IsRunStatus, ReadsInput, ServesProgram, ReportsFailures}
 use Rattle.ptb_machine.specs.PlainRuns.{PlaysWith, ReadsLines, WantsMemory, ending_wanted, lines_come, lines_taken}
 use Rattle.ptb_machine.specs.Streams.{Reads, Writes}
 use Rattle.ptb_serve.specs.Replies.{Reply, program_reply, program_reply_in_mode, run_reply}
@@ -27,9 +27,9 @@ use Rattle.ptb_serve.specs.ServedRequests.{AsksForMore, EndsUnread, IsInput, IsP
 use Rattle.ptb_serve.specs.ServedRequests.{NeedsInput, NeedsWholeInput, ReadsBy, ReadsForRun, Serves}
 use Rattle.ptb_serve.specs.ServedRequests.{ServesUnread, SilentBy, StopsForMemory, outcome_of}
 use Rattle.ptb_serve.specs.ServedRequests.{outcome_wanted}
-use Rattle.ptb_serve.proofs.Served.{asks_loaded, at_known, each_known, reads_loaded, run_no_check}
-use Rattle.ptb_serve.proofs.Served.{serves_ended, serves_loaded, status_within, unread_loaded}
-use Rattle.ptb_serve.proofs.Served.{wanted_ended}
+use Rattle.ptb_serve.proofs.ServedPrograms.{asks_loaded, at_known, each_known, reads_loaded, run_no_check}
+use Rattle.ptb_serve.proofs.ServedPrograms.{serves_ended, serves_loaded, status_within, unread_loaded}
+use Rattle.ptb_serve.proofs.ServedPrograms.{wanted_ended}
 
 -- the program was played with these answers, which may depend on the lines
 pub record Ran {R : Type 0} (request : Request) (p : StoredProgram) (answers : List (List ℕ)

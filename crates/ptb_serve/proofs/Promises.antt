@@ -7,7 +7,7 @@ use Rattle.ptb_text.specs.declared.fault.LoadFault.TheVariants as loads
 use Rattle.ptb_text.specs.Device.{GivesAtMost, GivesExactly, HasFailed}
 use Rattle.ptb_text.specs.Entry.{IsLineFault}
 use Rattle.ptb_text.specs.Lines.{input_lines}
-use Rattle.ptb_text.specs.Loading.{IsLoaded, IsRefusedAt}
+use Rattle.ptb_text.specs.ProgramTexts.{IsLoaded, IsRefusedAt}
 use Rattle.ptb_text.specs.Statements.{Statements, StoredProgram, program_limit}
 use Rattle.ptb_devices.specs.Sources.{ConsumesAtMost}
 use Rattle.ptb_options.specs.declared.request.Request.{Request}
@@ -16,8 +16,8 @@ use Rattle.ptb_serve.specs.declared.list_mismatch.ListMismatch.{ListMismatch}
 use Rattle.ptb_serve.specs.declared.note.Note.{Note}
 use Rattle.ptb_serve.specs.declared.note.Note.TheVariants as notes
 use Rattle.ptb_serve.specs.declared.service.Outcome.{Outcome}
-use Rattle.ptb_serve.specs.Loaded.{ServesProgram, ReadsInput, ReportsFailures, ReportsLine, ReportsMismatch}
-use Rattle.ptb_serve.specs.Loaded.{line_in_mode}
+use Rattle.ptb_serve.specs.LoadedPrograms.{ServesProgram, ReadsInput, ReportsFailures, ReportsLine, ReportsMismatch}
+use Rattle.ptb_serve.specs.LoadedPrograms.{line_in_mode}
 use Rattle.ptb_serve.specs.ListMismatches.{IsMismatchOf}
 use Rattle.ptb_serve.specs.Promises.{Served, ReadsOnlyWhatIsAsked, FailsLoudly}
 use Rattle.ptb_serve.specs.Replies.{listing_reply, program_of_text, program_reply_in_mode, reply_in_mode}
@@ -25,14 +25,14 @@ use Rattle.ptb_serve.specs.ServedRequests.{IsUnloaded, NeedsInput, ReadsForRun, 
 use Rattle.ptb_serve.specs.ServedRequests.{StopsForMemory, load_note, outcome_of}
 use Rattle.ptb_serve.proofs.Lines.{line_loaded, note_beyond, served_at_limit, status_at_limit}
 use Rattle.ptb_serve.proofs.Mismatches.{mismatch_loaded, noted_outcome, said_outcome}
-use Rattle.ptb_serve.proofs.Served.{consumes_nothing, each_known, load_note-length, load_note-other}
-use Rattle.ptb_serve.proofs.Served.{load_note-read, load_note-refusal, load_note-silent}
-use Rattle.ptb_serve.proofs.Served.{load_note-unread, loaded_length, loaded_refusal}
-use Rattle.ptb_serve.proofs.Served.{loaded_unrefused, outcome_of-err, outcome_of-none}
-use Rattle.ptb_serve.proofs.Served.{outcome_of-note, outcome_of-status, outcome_of-checked}
-use Rattle.ptb_serve.proofs.Served.{outcome_of-success, serves_refusal, serves_unloaded}
-use Rattle.ptb_serve.proofs.Served.{stops_unloaded, takes_nothing_in, unread, unwritten}
-use Rattle.ptb_serve.proofs.Served.{when_refused}
+use Rattle.ptb_serve.proofs.ServedPrograms.{consumes_nothing, each_known, load_note-length, load_note-other}
+use Rattle.ptb_serve.proofs.ServedPrograms.{load_note-read, load_note-refusal, load_note-silent}
+use Rattle.ptb_serve.proofs.ServedPrograms.{load_note-unread, loaded_length, loaded_refusal}
+use Rattle.ptb_serve.proofs.ServedPrograms.{loaded_unrefused, outcome_of-err, outcome_of-none}
+use Rattle.ptb_serve.proofs.ServedPrograms.{outcome_of-note, outcome_of-status, outcome_of-checked}
+use Rattle.ptb_serve.proofs.ServedPrograms.{outcome_of-success, serves_refusal, serves_unloaded}
+use Rattle.ptb_serve.proofs.ServedPrograms.{stops_unloaded, takes_nothing_in, unread, unwritten}
+use Rattle.ptb_serve.proofs.ServedPrograms.{when_refused}
 
 -- without a mismatch nothing is said of any program
 nothing_said : (memory : ℕ) (known : Option (List ℕ))

@@ -18,8 +18,8 @@ use Rattle.ptb_answers.specs.AnswerText.{answers_of, items_in}
 use Rattle.ptb_explore.specs.Beginnings.{BeginningLaws}
 use Rattle.ptb_explore.specs.Laws.{ListingLaws, ReportLaws, ShareLaws, TreeLaws}
 use Rattle.ptb_explore.specs.Report.{report_of}
-use Rattle.ptb_explore.specs.Sampling.{SampleLaws}
-use Rattle.ptb_answers.specs.Drawn.{sampled_runs}
+use Rattle.ptb_explore.specs.Samples.{SampleLaws}
+use Rattle.ptb_answers.specs.DrawnAnswers.{sampled_runs}
 use Rattle.ptb_answers.specs.Seeds.{generator_after, generator_of}
 use Rattle.ptb_explore.specs.Openings.{first_front}
 use Rattle.ptb_machine.specs.RunTree.{IsRun, Before, begins_with, is_left, runs_after}
@@ -41,7 +41,7 @@ use Rattle.ptb_serve.specs.Replies.{reply_or_refusal, program_reply, reply_in_mo
 use Rattle.ptb_serve.specs.ReplyLaws.{ChecksText, ListsRuns, RunReplies, RunsBySeed, SamplesBySeed, ReplyLaws}
 use Rattle.ptb_serve.proofs.Fronts.{begun_after, begun_both, begun_under, both_parts, both_true}
 use Rattle.ptb_serve.proofs.Fronts.{no_front, no_share, share_true}
-use Rattle.ptb_serve.proofs.Listed.{reply-listed, reply-refused}
+use Rattle.ptb_serve.proofs.ServedListings.{reply-listed, reply-refused}
 use Rattle.ptb_serve.proofs.ShareReplies.{share_replies, splits_runs}
 
 -- ---- a text that is refused

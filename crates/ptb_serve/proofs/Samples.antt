@@ -18,7 +18,7 @@ use Rattle.ptb_explore.specs.declared.fault.ExploreFault.{ExploreFault}
 use Rattle.ptb_explore.specs.declared.fault.ExploreFault.TheVariants as explores
 use Rattle.ptb_explore.specs.Listing.{text}
 use Rattle.ptb_explore.specs.Report.{report}
-use Rattle.ptb_explore.specs.Sampling.{WritesSample}
+use Rattle.ptb_explore.specs.Samples.{WritesSample}
 use Rattle.ptb_options.specs.declared.request.Mode.{Mode}
 use Rattle.ptb_options.specs.declared.request.Mode.TheVariants as modes
 use Rattle.ptb_options.specs.declared.request.Request.{Request}
@@ -26,11 +26,11 @@ use Rattle.ptb_machine.proofs.PublicLemmas.{takes_beginning}
 use Rattle.ptb_machine.specs.Streams.{Writes as Output}
 use Rattle.ptb_serve.specs.declared.note.Note.{Note}
 use Rattle.ptb_serve.specs.declared.note.Note.TheVariants as notes
-use Rattle.ptb_serve.specs.Loaded.{IsServedOn, ServesProgram}
+use Rattle.ptb_serve.specs.LoadedPrograms.{IsServedOn, ServesProgram}
 use Rattle.ptb_serve.specs.Replies.{Reply, runs_drawn, sample_reply}
 use Rattle.ptb_serve.specs.ServedRequests.{SamplesFewerOf, Serves, device_note, outcome_of, reports_note}
-use Rattle.ptb_serve.proofs.Listed.{below_both, serves_mode, text-beginning, text-into}
-use Rattle.ptb_serve.proofs.Served.{nothing_told, samples_loaded, serves_loaded}
+use Rattle.ptb_serve.proofs.ServedListings.{below_both, serves_mode, text-beginning, text-into}
+use Rattle.ptb_serve.proofs.ServedPrograms.{nothing_told, samples_loaded, serves_loaded}
 use Rattle.ptb_serve.proofs.WholeInput.{all_due, all_written, at_lines, cut_due, cut_silent, IsDue, ReportsWriter}
 use Rattle.ptb_serve.proofs.WholeInput.{reports_cut, unread_due}
 

@@ -30,7 +30,7 @@ use Rattle.ptb_options.specs.declared.request.Mode.TheVariants as modes
 use Rattle.ptb_serve.specs.Replies.{Reply, all_reply, shares_reply, reply_with}
 use Rattle.ptb_serve.specs.ReplyLaws.{ShareReplies, SplitsRuns}
 use Rattle.ptb_serve.proofs.Fronts.{begun_under, both_parts, both_true}
-use Rattle.ptb_serve.proofs.Listed.{reply-listed}
+use Rattle.ptb_serve.proofs.ServedListings.{reply-listed}
 
 -- ---- the answers to a question
 

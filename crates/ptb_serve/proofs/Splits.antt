@@ -29,12 +29,12 @@ use Rattle.ptb_machine.proofs.PublicLemmas.{takes_beginning}
 use Rattle.ptb_machine.specs.Streams.{Writes as Output}
 use Rattle.ptb_serve.specs.declared.note.Note.{Note}
 use Rattle.ptb_serve.specs.declared.note.Note.TheVariants as notes
-use Rattle.ptb_serve.specs.Loaded.{IsServedOn, ServesProgram}
+use Rattle.ptb_serve.specs.LoadedPrograms.{IsServedOn, ServesProgram}
 use Rattle.ptb_serve.specs.Replies.{Reply, shares_reply}
 use Rattle.ptb_serve.specs.ServedRequests.{SplitsFewerOf, Serves, device_note, outcome_of, reports_note}
-use Rattle.ptb_serve.proofs.Listed.{below_both, serves_mode, text-beginning, text-into}
+use Rattle.ptb_serve.proofs.ServedListings.{below_both, serves_mode, text-beginning, text-into}
 use Rattle.ptb_serve.proofs.Mismatches.{run_refuses_none}
-use Rattle.ptb_serve.proofs.Served.{nothing_told, splits_loaded, serves_loaded, takes_nothing}
+use Rattle.ptb_serve.proofs.ServedPrograms.{nothing_told, splits_loaded, serves_loaded, takes_nothing}
 use Rattle.ptb_serve.proofs.WholeInput.{all_due, all_written, at_lines, cut_due, cut_silent, IsDue, ReportsWriter}
 use Rattle.ptb_serve.proofs.WholeInput.{gives_err, reports_cut, unread_due}
 

@@ -20,12 +20,12 @@ use Rattle.ptb_options.specs.declared.request.Mode.TheVariants as modes
 use Rattle.ptb_options.specs.declared.request.Request.{Request}
 use Rattle.ptb_serve.specs.declared.note.Note.{Note}
 use Rattle.ptb_serve.specs.declared.note.Note.TheVariants as notes
-use Rattle.ptb_serve.specs.Loaded.{IsServedOn, ServesProgram}
+use Rattle.ptb_serve.specs.LoadedPrograms.{IsServedOn, ServesProgram}
 use Rattle.ptb_serve.specs.Replies.{Reply, chances_reply}
 use Rattle.ptb_serve.specs.ServedRequests.{IsUnloaded, Serves, SilentBy, device_note, outcome_of}
-use Rattle.ptb_serve.proofs.Listed.{serves_mode}
+use Rattle.ptb_serve.proofs.ServedListings.{serves_mode}
 use Rattle.ptb_serve.proofs.Mismatches.{run_refuses_none}
-use Rattle.ptb_serve.proofs.Served.{nothing_told, serves_loaded, takes_nothing}
+use Rattle.ptb_serve.proofs.ServedPrograms.{nothing_told, serves_loaded, takes_nothing}
 use Rattle.ptb_serve.proofs.WholeInput.{IsDue, all_due, all_written, at_lines, gives_err, unread_due}
 
 module _ (request : Request) (p : StoredProgram) (memory : p.memory ≡ request.memory) where

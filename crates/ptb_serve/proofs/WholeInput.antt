@@ -20,15 +20,15 @@ use Rattle.ptb_options.specs.declared.request.Request.{Request}
 use Rattle.ptb_machine.specs.PlainRuns.{input_limit}
 use Rattle.ptb_serve.specs.declared.note.Note.{Note}
 use Rattle.ptb_serve.specs.declared.note.Note.TheVariants as notes
-use Rattle.ptb_serve.specs.Loaded.{IsServed, IsServedOn, ReadsInput, ServesProgram}
+use Rattle.ptb_serve.specs.LoadedPrograms.{IsServed, IsServedOn, ReadsInput, ServesProgram}
 use Rattle.ptb_serve.specs.Replies.{Reply}
 use Rattle.ptb_serve.specs.ServedRequests.{IsPlainRun, IsUnloaded, NeedsInput, Serves, SilentBy}
 use Rattle.ptb_serve.specs.ServedRequests.{device_note, outcome_of, reports_note}
-use Rattle.ptb_serve.proofs.Listed.{device_note-loaded, device_note-written, reports_note-failed}
-use Rattle.ptb_serve.proofs.Listed.{reports_note-loaded, reports_note-read, reports_note-write}
-use Rattle.ptb_serve.proofs.Listed.{whole_reads, whole_unread}
+use Rattle.ptb_serve.proofs.ServedListings.{device_note-loaded, device_note-written, reports_note-failed}
+use Rattle.ptb_serve.proofs.ServedListings.{reports_note-loaded, reports_note-read, reports_note-write}
+use Rattle.ptb_serve.proofs.ServedListings.{whole_reads, whole_unread}
 use Rattle.ptb_serve.proofs.Mismatches.{reports_refuse_none, success_refuses_none, unread_refuses_none}
-use Rattle.ptb_serve.proofs.Served.{at_known, takes_nothing}
+use Rattle.ptb_serve.proofs.ServedPrograms.{at_known, takes_nothing}
 
 -- what a `?` gives back is the error
 pub gives_err : {T E : Type 0} (r : Result T E) (e : E) → IsErrAnd r (λ y. y ≡ e) → r ≡ Err e

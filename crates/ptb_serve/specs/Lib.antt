@@ -3,9 +3,9 @@ pub mod Statuses
 pub mod Messages
 pub mod Replies
 pub mod ReplyLaws
-pub mod Flushed
+pub mod FlushedDevices
 pub mod ListMismatches
 pub mod ServedRequests
-pub mod Loaded
+pub mod LoadedPrograms
 pub mod Promises
 pub mod Prelude

@@ -12,8 +12,8 @@ pub use Rattle.ptb_machine.specs.Streams.{reads_of, writes_of}
 pub use Rattle.ptb_text.specs.Device.{HasFailed}
 pub use Rattle.ptb_text.specs.Lines.{input_lines}
 pub use Rattle.ptb_serve.specs.ListMismatches.{IsUnbegun, items_of}
-pub use Rattle.ptb_serve.specs.Loaded.{ReadsInput, ServesProgram, ReportsFailures, ReportsMismatch, IsRunStatus}
-pub use Rattle.ptb_serve.specs.Loaded.{end_line, IsServed, IsServedIn, IsServedOn}
+pub use Rattle.ptb_serve.specs.LoadedPrograms.{ReadsInput, ServesProgram, ReportsFailures, ReportsMismatch, IsRunStatus}
+pub use Rattle.ptb_serve.specs.LoadedPrograms.{end_line, IsServed, IsServedIn, IsServedOn}
 pub use Rattle.ptb_serve.specs.Promises.{FailsLoudly, ReadsOnlyWhatIsAsked, Served}
 pub use Rattle.ptb_serve.specs.Replies.{answers_under, front_note}
 pub use Rattle.ptb_serve.specs.ReplyLaws.{ReplyLaws}

@@ -13,7 +13,7 @@ use Rattle.ptb_options.specs.declared.request.Request.{Request}
 use Rattle.ptb_serve.specs.declared.note.Note.TheVariants as notes
 use Rattle.ptb_serve.specs.declared.service.Outcome.{Outcome}
 use Rattle.ptb_serve.specs.ListMismatches.{IsMismatchOf, mismatch_note}
-use Rattle.ptb_serve.specs.Loaded.{line_in_mode}
+use Rattle.ptb_serve.specs.LoadedPrograms.{line_in_mode}
 use Rattle.ptb_serve.specs.Replies.{program_of_text, refusal, reply_to}
 use Rattle.ptb_serve.specs.ServedRequests.{IsCheck, IsInput, IsPlainRun, IsUnloaded, NeedsInput}
 use Rattle.ptb_serve.specs.ServedRequests.{NeedsWholeInput, ReadsForRun, Serves, ServesUnread, SilentBy}

@@ -14,7 +14,7 @@ use Rattle.ptb_machine.specs.Questions.{most_answers}
 use Rattle.ptb_answers.specs.declared.form.Form.{Form}
 use Rattle.ptb_answers.specs.declared.form.Marked.{Marked}
 use Rattle.ptb_answers.specs.AnswerText.{answers_of}
-use Rattle.ptb_answers.specs.Drawn.{sampled_runs}
+use Rattle.ptb_answers.specs.DrawnAnswers.{sampled_runs}
 use Rattle.ptb_answers.specs.Seeds.{generator_of}
 use Rattle.ptb_explore.specs.MarkedRuns.{states_bounds}
 use Rattle.ptb_explore.specs.Openings.{first_front}

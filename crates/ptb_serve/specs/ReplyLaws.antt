@@ -36,7 +36,7 @@ use Rattle.ptb_explore.specs.MarkedRuns.{IsMarkedBeginning, IsMarkedRun}
 use Rattle.ptb_explore.specs.ReportText.{report_text}
 use Rattle.ptb_explore.specs.Report.{report}
 use Rattle.ptb_machine.specs.EndingWords.{ending_word}
-use Rattle.ptb_explore.specs.Sampling.{concatenated}
+use Rattle.ptb_explore.specs.Samples.{concatenated}
 use Rattle.ptb_machine.specs.RunTree.{IsRun, Before, IsRising, answers_to, begins_with, tree}
 use Rattle.ptb_serve.specs.declared.note.Note.TheVariants as notes
 use Rattle.ptb_options.specs.declared.request.Mode.{Mode}

@@ -3,7 +3,7 @@
 ghost use Rattle.std.specs.Prelude.{◌≡◌};
 ghost use Rattle.ptb_options.specs.declared.request.Mode.TheVariants.{Chances};
 ghost use Rattle.ptb_machine.specs.Streams.{reads_of, writes_of};
-ghost use Rattle.ptb_serve.specs.Loaded.{IsServed, IsServedOn};
+ghost use Rattle.ptb_serve.specs.LoadedPrograms.{IsServed, IsServedOn};
 
 use crate::note::Note;
 use ptb_chances::{Watch, write_chances};

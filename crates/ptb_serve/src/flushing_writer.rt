@@ -2,7 +2,7 @@
 
 ghost use Rattle.std.specs.Prelude.{◌≡◌};
 ghost use Rattle.ptb_text.specs.Device.{DeviceTakes, device_inner, failure_count};
-ghost use Rattle.ptb_serve.specs.Flushed.{flushed_device};
+ghost use Rattle.ptb_serve.specs.FlushedDevices.{flushed_device};
 
 use ptb_text::{ByteSink, Device, DeviceFault, Write};
 

@@ -3,7 +3,7 @@
 ghost use Rattle.std.specs.Prelude.{◌≡◌, ◌≤◌};
 ghost use Rattle.ptb_options.specs.declared.request.Mode.TheVariants.{Check};
 ghost use Rattle.ptb_machine.specs.Streams.{writes_of};
-ghost use Rattle.ptb_serve.specs.Loaded.{IsServedUnread};
+ghost use Rattle.ptb_serve.specs.LoadedPrograms.{IsServedUnread};
 ghost use Rattle.ptb_serve.specs.Replies.{check_status};
 
 use crate::note::Note;

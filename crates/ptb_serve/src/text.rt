@@ -2,7 +2,7 @@
 
 ghost use Rattle.ptb_options.specs.declared.request.Mode.TheVariants.{List};
 ghost use Rattle.ptb_machine.specs.Streams.{writes_of};
-ghost use Rattle.ptb_serve.specs.Loaded.{IsServedUnread};
+ghost use Rattle.ptb_serve.specs.LoadedPrograms.{IsServedUnread};
 
 use crate::note::Note;
 use ptb_text::{Program, Write, list};

@@ -6,7 +6,7 @@ use Rattle.std.proofs.Common.{one-add}
 use Rattle.std.specs.Prelude.{position}
 use Rattle.std.specs.List.{list_all, prefix_len}
 use Rattle.std.proofs.lemmas.Bool.Decides.{nat_tests}
-use Rattle.ptb_text.proofs.Sound.{both_true}
+use Rattle.ptb_text.proofs.SoundPrograms.{both_true}
 
 abbrev Test : Type 0
 Test = ℕ → Bool

@@ -19,7 +19,7 @@ use Rattle.ptb_text.specs.Statements.{is_statement, with_text, without_number}
 use Rattle.ptb_text.specs.Entry.{Enters}
 use Rattle.ptb_text.specs.Places.{IsAt, IsGapFor}
 use Rattle.ptb_text.proofs.Entries.{with_text-place, with_text-gap, without_number-place}
-use Rattle.ptb_text.proofs.Sound.{both_true}
+use Rattle.ptb_text.proofs.SoundPrograms.{both_true}
 use Rattle.ptb_text.proofs.Searches.{same_from_equal}
 
 -- ---- a program stays one

@@ -24,7 +24,7 @@ use Rattle.ptb_text.specs.Words.{spelling_in_front, first_word, word_at, begins_
 use Rattle.ptb_text.specs.Words.{bytes_at, is_letter, letter_there, letter_at, small_number}
 use Rattle.ptb_text.specs.Words.{is_number, number_at, Quotation, NoQuote, QuotedText, is_quote}
 use Rattle.ptb_text.specs.Words.{quotation_up_to, quotation_there, quotation_at, is_quotation}
-use Rattle.ptb_text.specs.Finding.{LiesAhead, past_byte, IsNextToken, FindingLaws}
+use Rattle.ptb_text.specs.FoundParts.{LiesAhead, past_byte, IsNextToken, FindingLaws}
 use Rattle.ptb_text.proofs.Words.{words_have_letters, first_word_end, finds_none}
 use Rattle.ptb_text.proofs.Blanks.{past_blanks_from, past_blanks_within, past_blanks_twice}
 

@@ -5,7 +5,7 @@ use Rattle.std.proofs.Common.{slice_get, add-one, ap, subst, ◌∙◌, arith}
 use Rattle.ptb_text.specs.Statements.{Statements, text_at}
 use Rattle.ptb_text.specs.Places.{IsAt, StatementLaws, statement_number}
 use Rattle.ptb_text.proofs.Entries.{number_after-place}
-use Rattle.ptb_text.proofs.Sound.{both_true, IsAt-from_rising, text_at-number}
+use Rattle.ptb_text.proofs.SoundPrograms.{both_true, IsAt-from_rising, text_at-number}
 
 there : (p : Statements) (i : ℕ) (s : ℕ × List ℕ) → slice_get p i ≡ Some s → (i < length p) × (get_or p i (0, []) ≡ s)
 there [] i s e = absurd cc

@@ -17,10 +17,10 @@ use Rattle.ptb_text.proofs.Edits.{cost-with_text_gap, cost-with_text_place, is_p
 use Rattle.ptb_text.proofs.Edits.{one_cost-le-cost, Enters-ok, Enters-full, Enters-memory}
 use Rattle.ptb_text.proofs.Entries.{with_text-gap, with_text-place}
 use Rattle.ptb_text.proofs.Pool.{IsEntry, laid_items}
-use Rattle.ptb_text.proofs.Sound.{StatementFacts-from_test}
-use Rattle.ptb_text.proofs.Stored.{IsEntry-shown, IsLayout, IsLayout-from_kept, IsLayout-insert}
-use Rattle.ptb_text.proofs.Stored.{IsLayout-set, IsKept-from_layout, lines_shown, memory_shown}
-use Rattle.ptb_text.proofs.Stored.{is_program_shown, same_shown}
+use Rattle.ptb_text.proofs.SoundPrograms.{StatementFacts-from_test}
+use Rattle.ptb_text.proofs.StoredLines.{IsEntry-shown, IsLayout, IsLayout-from_kept, IsLayout-insert}
+use Rattle.ptb_text.proofs.StoredLines.{IsLayout-set, IsKept-from_layout, lines_shown, memory_shown}
+use Rattle.ptb_text.proofs.StoredLines.{is_program_shown, same_shown}
 
 -- fields with the same statements, texts and memory are kept, too
 pub IsKept-same : (f g : Inside) → g.statements.items ≡ f.statements.items → g.pool.items ≡ f.pool.items

@@ -21,7 +21,7 @@ use Rattle.ptb_text.specs.Digits.{is_digit, digits_value}
 use Rattle.ptb_text.specs.Words.{past_blanks, next_byte_at, words, first_word, word_at, is_letter}
 use Rattle.ptb_text.specs.Words.{letter_there, letter_at, small_number, number_at, is_number, is_quote}
 use Rattle.ptb_text.specs.Words.{quotation_at, QuotedText, OpenQuote}
-use Rattle.ptb_text.specs.Finding.{LiesAhead, past_byte, IsNextToken}
+use Rattle.ptb_text.specs.FoundParts.{LiesAhead, past_byte, IsNextToken}
 use Rattle.ptb_text.proofs.Digits.{digits_stop, digits_end}
 use Rattle.ptb_text.proofs.FoundParts.{number_ahead, stands_next}
 use Rattle.std.proofs.lemmas.Option.{slice_get-get_or, slice_get_past}

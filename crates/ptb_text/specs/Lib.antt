@@ -3,11 +3,11 @@ pub mod Digits
 pub mod CursorState
 pub mod Words
 pub mod WordSearch
-pub mod Finding
+pub mod FoundParts
 pub mod Device
 pub mod Entry
 pub mod Lines
-pub mod Loading
+pub mod ProgramTexts
 pub mod Places
 pub mod Program
 pub mod Statements
@@ -15,5 +15,5 @@ pub mod Streams
 pub use Rattle.ptb_text.specs.Digits
 pub use Rattle.ptb_text.specs.CursorState
 pub use Rattle.ptb_text.specs.Words
-pub use Rattle.ptb_text.specs.Finding
+pub use Rattle.ptb_text.specs.FoundParts
 pub mod Prelude

@@ -3,7 +3,7 @@
 ghost use Rattle.std.specs.Prelude.{◌≡◌, ◌≤◌, ℕ, [], IfErr, IsTrue, OnErr, OnOk};
 ghost use Rattle.std.specs.Io.KnownBytes.{Appends};
 ghost use Rattle.ptb_text.specs.Device.{HasFailed, TakesSome};
-ghost use Rattle.ptb_text.specs.Loading.{GivesProgram};
+ghost use Rattle.ptb_text.specs.ProgramTexts.{GivesProgram};
 ghost use Rattle.ptb_text.specs.Statements.{Statements, cost, is_program, line_of, listing};
 
 use crate::{DeviceFault, OutputBuffer, Program, Write};

@@ -4,12 +4,12 @@ use Rattle.std.proofs.Common.{Err, Some, None, FitsSigned, w16, to_z-of_z}
 use Rattle.ptb_answers.specs.Outcome.{is_open}
 use Rattle.ptb_command.specs.State.{State}
 use Rattle.ptb_machine.specs.Play.{run_from}
-use Rattle.ptb_chances.specs.Planned.{PlanAnswers, plan_choices}
-use Rattle.ptb_chances.specs.Standing.{Came}
+use Rattle.ptb_chances.specs.PlanChoosers.{PlanAnswers, plan_choices}
+use Rattle.ptb_chances.specs.StagePlays.{Came}
 use Rattle.ptb_chances.proofs.PlaySteps.{advanced, came_by, came_first, none_follow, never_out, never_unread}
 use Rattle.ptb_chances.proofs.PlaySteps.{never_unwritten, plays_by, step_came, step_plays}
 use Rattle.ptb_chances.proofs.PlaySteps.{step_plan, taken_within}
-use Rattle.ptb_chances.proofs.Picked.{whole}
+use Rattle.ptb_chances.proofs.PickedAnswers.{whole}
 use Rattle.ptb_chances.proofs.plays.play_plan.Goals as goal
 use Rattle.ptb_chances.proofs.plays.play_plan.Goals.{After-advance}
 

@@ -2,7 +2,7 @@
 -- to where the machine is.
 use Rattle.std.proofs.Common.{◌≡◌, ◌≤◌, ◌-◌, false, length, take, drop}
 use Rattle.ptb_command.specs.State.{State}
-use Rattle.ptb_chances.specs.Standing.{Came, IsStageAt}
+use Rattle.ptb_chances.specs.StagePlays.{Came, IsStageAt}
 use Rattle.ptb_chances.proofs.plays.play_plan.Given as goal
 
 abbrev pub invariant-commands : goal.invariant-commands

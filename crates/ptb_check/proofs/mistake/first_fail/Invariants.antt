@@ -1,6 +1,6 @@
 -- This file says what the loop of `first_fail` keeps.
 use Rattle.std.proofs.Common.{◌≡◌, length}
-use Rattle.ptb_expr.specs.Written.{first_fail}
+use Rattle.ptb_expr.specs.WrittenExpressions.{first_fail}
 use Rattle.ptb_check.proofs.mistake.first_fail.Given as goal
 
 abbrev pub invariant-loop-step : goal.invariant-loop-step

@@ -3,7 +3,7 @@ use Rattle.std.proofs.Common.{◌≡◌, ◌∙◌, ◌∷◌, ◌≤◌, ℕ, L
 use Rattle.std.proofs.Common.{arith}
 use Rattle.std.proofs.lemmas.Result.{err_from_is_err_and}
 use Rattle.ptb_text.specs.CursorState.{CursorState}
-use Rattle.ptb_text.specs.Finding.{LiesAhead}
+use Rattle.ptb_text.specs.FoundParts.{LiesAhead}
 use Rattle.ptb_text.specs.Words.{is_over}
 use Rattle.ptb_command.specs.Commands.{command_at, commands_from}
 use Rattle.ptb_command.specs.Translation.{IsTranslated}

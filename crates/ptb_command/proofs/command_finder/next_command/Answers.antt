@@ -3,7 +3,7 @@ use Rattle.std.proofs.Common.{◌≡◌, ◌∙◌, Option, None, true, false, s
 use Rattle.ptb_text.specs.Words.{is_over}
 use Rattle.ptb_command.specs.Locations.{PlacesAre, NextIs}
 use Rattle.ptb_command.specs.State.{Place, next_command}
-use Rattle.ptb_command.proofs.Placed.{not_placed}
+use Rattle.ptb_command.proofs.MachinePlaces.{not_placed}
 use Rattle.ptb_command.proofs.Nexts.{placed, text_there, next_nowhere, next_here, next_last, next_empty, next_later}
 use Rattle.ptb_command.proofs.command_finder.next_command.Goals as goal
 

@@ -1,6 +1,6 @@
 -- This file answers what is left to prove of `put`.
 use Rattle.std.proofs.Common.{refl}
-use Rattle.ptb_command.proofs.Shown.{shown, not_shown}
+use Rattle.ptb_command.proofs.ShownBytes.{shown, not_shown}
 use Rattle.ptb_command.proofs.ShownPieces.{shown_err}
 use Rattle.ptb_command.proofs.output.put.Goals as goal
 

@@ -4,12 +4,12 @@ use Rattle.std.proofs.Common.{◌∙◌, ◌≤◌, arith, ap, refl, vec_len}
 use Rattle.std.proofs.lemmas.Result.{IfOk-from_err}
 use Rattle.ptb_machine.specs.Play.{play}
 use Rattle.ptb_machine.specs.Questions.{most_answers}
-use Rattle.ptb_answers.specs.Asked.{answers_in, bounds_in}
+use Rattle.ptb_answers.specs.AskedQuestions.{answers_in, bounds_in}
 use Rattle.ptb_explore.specs.Explorations.{game_of}
 use Rattle.ptb_explore.specs.Recorders.{recorder_choices, recorded}
 use Rattle.ptb_explore.proofs.WrittenTexts.{on_err_always}
-use Rattle.ptb_explore.proofs.Keep.{kept_same}
-use Rattle.ptb_explore.proofs.Recorded.{given_answers, recorded_len, same_bounds}
+use Rattle.ptb_explore.proofs.KeptCopies.{kept_same}
+use Rattle.ptb_explore.proofs.RecordedAnswers.{given_answers, recorded_len, same_bounds}
 use Rattle.ptb_explore.proofs.Runners.{changed}
 use Rattle.ptb_explore.proofs.StoppedPlans.{beginning_ends, stopping_agrees}
 use Rattle.ptb_explore.proofs.beginning_search.play_beginning.Goals as goal

@@ -2,7 +2,7 @@
 use Rattle.std.proofs.Common.{rules, ◌≡◌, ◌∙◌, sym, pos, get_or, FitsSigned, w16, to_z, to_z-of_z, ap, arith}
 use Rattle.ptb_answers.specs.declared.form.Marked.{Marked}
 use Rattle.ptb_answers.specs.AnswerText.{without_bound}
-use Rattle.ptb_explore.proofs.Stated.{same_answer, too_short}
+use Rattle.ptb_explore.proofs.StatedBounds.{same_answer, too_short}
 use Rattle.ptb_explore.proofs.item_lists.items_begin_with.Goals as goal
 
 abbrev none : Marked

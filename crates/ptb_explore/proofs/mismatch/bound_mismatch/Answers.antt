@@ -4,7 +4,7 @@ use Rattle.std.proofs.Common.{FitsSigned, w16, to_z, of_z, to_z-of_z}
 use Rattle.ptb_answers.specs.declared.asked.Asked.{Asked}
 use Rattle.ptb_answers.specs.declared.form.Marked.{Marked}
 use Rattle.ptb_answers.specs.AnswerText.{without_bound}
-use Rattle.ptb_answers.specs.Asked.{bounds_in}
+use Rattle.ptb_answers.specs.AskedQuestions.{bounds_in}
 use Rattle.ptb_explore.proofs.AskedLists.{bound_at, length-bounds_in}
 use Rattle.ptb_explore.specs.MarkedRuns.{is_bound}
 use Rattle.ptb_explore.proofs.Mismatches.{other_bound, states_more}

@@ -1,6 +1,6 @@
 -- This file says what is known of the items that were looked at.
 use Rattle.std.proofs.Common.{◌≡◌, take, true}
-use Rattle.ptb_answers.specs.Asked.{bounds_in}
+use Rattle.ptb_answers.specs.AskedQuestions.{bounds_in}
 use Rattle.ptb_explore.specs.MarkedRuns.{states_bounds}
 use Rattle.ptb_explore.proofs.mismatch.bound_mismatch.Given as goal
 

@@ -5,7 +5,7 @@ use Rattle.std.proofs.lemmas.Bool.{cases_lt}
 use Rattle.ptb_answers.specs.declared.form.Marked.{Marked}
 use Rattle.ptb_answers.specs.AnswerText.{without_bound}
 use Rattle.ptb_command.specs.declared.ending.Ending.TheVariants as endings
-use Rattle.ptb_explore.proofs.Recorded.{given_len}
+use Rattle.ptb_explore.proofs.RecordedAnswers.{given_len}
 use Rattle.ptb_explore.specs.MarkedRuns.{states_bounds}
 use Rattle.ptb_explore.specs.PlannedPlays.{PlayEnds}
 use Rattle.ptb_explore.specs.Recorders.{recorder_choices, given_bounds}

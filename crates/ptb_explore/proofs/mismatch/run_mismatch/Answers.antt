@@ -6,7 +6,7 @@ use Rattle.ptb_answers.specs.declared.asked.Asked.{Asked}
 use Rattle.ptb_explore.specs.MarkedRuns.{states_bounds}
 use Rattle.ptb_explore.specs.Recorders.{given_bounds}
 use Rattle.ptb_explore.proofs.Mismatches.{all_fit, if_none_at, if_some_more, item_is_run, missing_item, none_is}
-use Rattle.ptb_explore.proofs.Recorded.{given_at, given_len}
+use Rattle.ptb_explore.proofs.RecordedAnswers.{given_at, given_len}
 use Rattle.ptb_explore.proofs.TakenItems.{has_all, takes_all}
 use Rattle.ptb_explore.proofs.mismatch.run_mismatch.Goals as goal
 

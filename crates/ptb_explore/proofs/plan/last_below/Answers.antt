@@ -3,7 +3,7 @@ use Rattle.std.proofs.Common.{rules, ◌≡◌, ◌-◌, ◌<◌, inl, inr, leng
 use Rattle.std.specs.Prelude.{◌≤ℤ◌}
 use Rattle.std.proofs.lemmas.Bool.{cases_lt}
 use Rattle.ptb_answers.specs.declared.asked.Asked.{Asked}
-use Rattle.ptb_answers.specs.Asked.{answers_in, bounds_in}
+use Rattle.ptb_answers.specs.AskedQuestions.{answers_in, bounds_in}
 use Rattle.ptb_explore.specs.Plans.{IsAtBound}
 use Rattle.ptb_explore.proofs.AskedLists.{answer_at, bound_at}
 use Rattle.ptb_explore.proofs.plan.last_below.Goals as goal

@@ -1,6 +1,6 @@
 -- This file says that the answers after the place are at their bounds.
 use Rattle.std.proofs.Common.{ℕ, ◌<◌, ◌≤◌, length}
-use Rattle.ptb_answers.specs.Asked.{answers_in, bounds_in}
+use Rattle.ptb_answers.specs.AskedQuestions.{answers_in, bounds_in}
 use Rattle.ptb_explore.specs.Plans.{IsAtBound}
 use Rattle.ptb_explore.proofs.plan.last_below.Given as goal
 

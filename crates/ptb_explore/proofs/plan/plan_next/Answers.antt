@@ -6,7 +6,7 @@ use Rattle.std.proofs.lemmas.Int.{ints}
 use Rattle.std.proofs.lemmas.List.{length-take-le, map-append, take-append-le, take-map}
 use Rattle.ptb_answers.specs.declared.asked.Asked.{Asked}
 use Rattle.ptb_answers.specs.AnswerText.{answers_of}
-use Rattle.ptb_answers.specs.Asked.{answers_in, bounds_in}
+use Rattle.ptb_answers.specs.AskedQuestions.{answers_in, bounds_in}
 use Rattle.ptb_explore.specs.Plans.{AreAtBounds, HasPlan, IsLastBelow}
 use Rattle.ptb_explore.proofs.AskedLists.{answer_at, length-answers_in}
 use Rattle.ptb_explore.proofs.WrittenTexts.{on_err_always}

@@ -4,7 +4,7 @@ use Rattle.std.proofs.lemmas.List.{length-take-le, take_all}
 use Rattle.ptb_answers.specs.AnswerText.{in_form, item_text}
 use Rattle.std.specs.Prelude.{◌==◌, if◌then◌else◌, codes}
 use Rattle.ptb_answers.specs.declared.form.Marked.{Marked}
-use Rattle.ptb_explore.specs.Begun.{begun, marked_of}
+use Rattle.ptb_explore.specs.ReportHeaders.{begun, marked_of}
 use Rattle.ptb_explore.specs.ReportText.{asked_items}
 use Rattle.ptb_explore.proofs.HeaderPrefixes.{begins_kept, ends_kept, is_in_form, items_kept, length-items_of}
 use Rattle.ptb_explore.proofs.HeaderPrefixes.{text_added}

@@ -1,6 +1,6 @@
 -- This file says what is added and kept after some of the items.
 use Rattle.std.proofs.Common.{◌≡◌, take}
-use Rattle.ptb_explore.specs.Begun.{AreEnds, begun, marked_items}
+use Rattle.ptb_explore.specs.ReportHeaders.{AreEnds, begun, marked_items}
 use Rattle.ptb_explore.specs.ReportText.{asked_items}
 use Rattle.ptb_explore.proofs.report_writer.add_items.Given as goal
 

@@ -3,7 +3,7 @@ use Rattle.std.proofs.Common.{arith, rules, ◌≡◌, ◌<◌, ◌∙◌, ap, s
 use Rattle.std.proofs.lemmas.List.{get_or-map, take_more}
 use Rattle.ptb_answers.specs.AnswerText.{in_form}
 use Rattle.ptb_answers.specs.declared.form.Marked.{Marked}
-use Rattle.ptb_explore.specs.Begun.{marked_of, marked_items}
+use Rattle.ptb_explore.specs.ReportHeaders.{marked_of, marked_items}
 use Rattle.ptb_explore.specs.ReportText.{asked_items}
 use Rattle.ptb_explore.proofs.HeaderPrefixes.{is_in_form, length-items_of}
 use Rattle.ptb_explore.proofs.AskedLists.{asked_at, item_for, question_at, length-asked_items}

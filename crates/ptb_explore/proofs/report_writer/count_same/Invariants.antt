@@ -1,6 +1,6 @@
 -- This file says that the first items are the same.
 use Rattle.std.proofs.Common.{◌≡◌, ◌≤◌, length, take}
-use Rattle.ptb_explore.specs.Begun.{marked_items}
+use Rattle.ptb_explore.specs.ReportHeaders.{marked_items}
 use Rattle.ptb_explore.specs.ReportText.{asked_items}
 use Rattle.ptb_explore.proofs.report_writer.count_same.Given as goal
 

@@ -1,7 +1,7 @@
 -- This file answers that what is left begins with the items that are left.
 use Rattle.std.proofs.Common.{arith, ◌≡◌, ◌∙◌, ℕ, List, ap, sym, subst, take, length}
 use Rattle.ptb_explore.specs.declared.kept_items.KeptItem.{KeptItem}
-use Rattle.ptb_explore.specs.Begun.{AreEnds, begun, marked_items}
+use Rattle.ptb_explore.specs.ReportHeaders.{AreEnds, begun, marked_items}
 use Rattle.ptb_explore.proofs.HeaderPrefixes.{begins_with_first, begins_within, ends_cut, items_cut}
 use Rattle.ptb_explore.proofs.report_writer.cut.Goals as goal
 

@@ -3,8 +3,8 @@ use Rattle.std.proofs.Common.{◌≡◌, ◌∙◌, subst}
 use Rattle.std.specs.Io.KnownBytes.{Appends}
 use Rattle.ptb_text.specs.Device.{TakesSome}
 use Rattle.ptb_answers.specs.AnswerText.{items_in}
-use Rattle.ptb_answers.specs.Asked.{answers_in, bounds_in}
-use Rattle.ptb_answers.specs.Drawn.{answers_by}
+use Rattle.ptb_answers.specs.AskedQuestions.{answers_in, bounds_in}
+use Rattle.ptb_answers.specs.DrawnAnswers.{answers_by}
 use Rattle.ptb_machine.specs.Play.{play}
 use Rattle.ptb_machine.specs.Questions.{most_answers}
 use Rattle.ptb_explore.specs.ReportText.{report_text}

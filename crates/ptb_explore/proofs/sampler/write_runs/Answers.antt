@@ -1,6 +1,6 @@
 -- This file answers that the reports of a sample are written, or those of its first runs.
 use Rattle.std.proofs.Common.{◌∙◌, Ok, Err, arith, ap, refl}
-use Rattle.ptb_answers.specs.Drawn.{answers_by}
+use Rattle.ptb_answers.specs.DrawnAnswers.{answers_by}
 use Rattle.ptb_answers.specs.Seeds.{SeededAnswers}
 use Rattle.ptb_machine.specs.Play.{play}
 use Rattle.ptb_machine.specs.Questions.{most_answers}

@@ -3,7 +3,7 @@ use Rattle.std.proofs.Common.{rules, ◌≡◌, ◌∙◌, refl, ap, arith, to_z
 use Rattle.ptb_expr.specs.Spells.{Expr}
 use Rattle.ptb_expr.specs.Reading.{item_of, expression}
 use Rattle.ptb_expr.specs.Value.{value}
-use Rattle.ptb_expr.proofs.Coded.{coded, worked_out, is_whole, is_whole_then}
+use Rattle.ptb_expr.proofs.CodedTrees.{coded, worked_out, is_whole, is_whole_then}
 use Rattle.ptb_expr.proofs.Evaluation.{where_whole, where_faulty}
 use Rattle.ptb_expr.proofs.PlainSteps.{evaluates_plain}
 use Rattle.ptb_expr.proofs.eval.evaluate_in.Goals as goal

@@ -5,8 +5,8 @@ use Rattle.ptb_machine.specs.RunDevices.{lent}
 use Rattle.ptb_machine.proofs.Ends.{end_broken}
 use Rattle.ptb_machine.proofs.RunStart.{fits_at_first}
 use Rattle.ptb_machine.proofs.Runs.{not_spent}
-use Rattle.ptb_machine.proofs.Underway.{IsUnderway, underway_first, underway_advanced, underway_on}
-use Rattle.ptb_machine.proofs.Underway.{underway_falls, underway_broken, underway_ended}
+use Rattle.ptb_machine.proofs.StepwiseRuns.{IsUnderway, underway_first, underway_advanced, underway_on}
+use Rattle.ptb_machine.proofs.StepwiseRuns.{underway_falls, underway_broken, underway_ended}
 use Rattle.ptb_machine.proofs.complete_run.play.Goals as goal
 use Rattle.ptb_machine.proofs.complete_run.play.Goals.{After-advance}
 

@@ -3,7 +3,7 @@ use Rattle.std.proofs.Common.{◌≡◌, ◌-◌, false}
 use Rattle.ptb_command.specs.CommandIo.{SameBorrows}
 use Rattle.ptb_machine.specs.RunDevices.{lent}
 use Rattle.ptb_machine.specs.Steps.{FitsProgram}
-use Rattle.ptb_machine.proofs.Underway.{IsUnderway}
+use Rattle.ptb_machine.proofs.StepwiseRuns.{IsUnderway}
 use Rattle.ptb_machine.proofs.complete_run.play.Given as goal
 
 abbrev pub invariant-steps : goal.invariant-steps

@@ -1,7 +1,7 @@
 -- This file answers what is known of a run on an input, by whether the source of its lines has come to a fault.
 use Rattle.std.proofs.Common.{sym, ◌∙◌}
 use Rattle.ptb_machine.specs.Runs.{ending_alone}
-use Rattle.ptb_machine.proofs.LinesRun.{concluded, has_line, ran_unread, ran_whole}
+use Rattle.ptb_machine.proofs.ReaderRuns.{concluded, has_line, ran_unread, ran_whole}
 use Rattle.ptb_machine.proofs.plain_run.run_on_input.Goals as goal
 
 -- it has come to one

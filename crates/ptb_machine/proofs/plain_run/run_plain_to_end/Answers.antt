@@ -1,6 +1,6 @@
 -- This file answers that a run with a list of answers is the plain run with this list.
 use Rattle.std.proofs.Common.{◌∙◌}
-use Rattle.ptb_machine.proofs.Answering.{goes_by_list, none_refused}
+use Rattle.ptb_machine.proofs.ListAnswers.{goes_by_list, none_refused}
 use Rattle.ptb_machine.proofs.plain_run.run_plain_to_end.Goals as goal
 
 pub returns : goal.returns

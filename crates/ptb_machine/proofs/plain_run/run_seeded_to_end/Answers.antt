@@ -1,6 +1,6 @@
 -- This file answers that a run by a seed is the plain run with the answers that are drawn from the seed.
 use Rattle.std.proofs.Common.{◌∙◌}
-use Rattle.ptb_machine.proofs.Drawing.{goes_by_drawn}
+use Rattle.ptb_machine.proofs.SeedAnswers.{goes_by_drawn}
 use Rattle.ptb_machine.proofs.plain_run.run_seeded_to_end.Goals as goal
 
 pub returns : goal.returns

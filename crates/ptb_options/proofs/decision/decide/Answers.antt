@@ -2,7 +2,7 @@
 use Rattle.std.proofs.Common.{◌∙◌, ap, sym}
 use Rattle.ptb_options.specs.Options.{Options}
 use Rattle.ptb_options.proofs.Decisions.{asked, decided_clash, decided_list, decided_misspelled}
-use Rattle.ptb_options.proofs.ListsKept.{list_found, no_list_found}
+use Rattle.ptb_options.proofs.KeptLists.{list_found, no_list_found}
 use Rattle.ptb_options.proofs.decision.decide.Goals as goal
 
 -- the options clash

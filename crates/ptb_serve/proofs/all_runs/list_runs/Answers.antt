@@ -1,7 +1,7 @@
 -- This file answers that a listing of all runs is served as is due, and how its input is read.
 use Rattle.std.proofs.Common.{refl}
 use Rattle.ptb_serve.specs.ServedRequests.{mode_of}
-use Rattle.ptb_serve.proofs.Listing.{unread_listed}
+use Rattle.ptb_serve.proofs.ListingResults.{unread_listed}
 use Rattle.ptb_serve.proofs.Mismatches.{none_told, unread_refuses_none}
 use Rattle.ptb_serve.proofs.WholeInput.{lines_read, no_fault, unread_served}
 use Rattle.ptb_serve.proofs.all_runs.list_runs.Goals as goal

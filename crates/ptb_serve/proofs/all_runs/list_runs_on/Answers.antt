@@ -3,8 +3,8 @@
 use Rattle.std.proofs.Common.{Err, refl, subst}
 use Rattle.ptb_machine.specs.Streams.{writes_of}
 use Rattle.ptb_serve.specs.declared.note.Note.{Note}
-use Rattle.ptb_serve.specs.Loaded.{RefusesListIn}
-use Rattle.ptb_serve.proofs.Listing.{listing_broken, listing_unbegun, listing_written}
+use Rattle.ptb_serve.specs.LoadedPrograms.{RefusesListIn}
+use Rattle.ptb_serve.proofs.ListingResults.{listing_broken, listing_unbegun, listing_written}
 use Rattle.ptb_serve.proofs.Mismatches.{none_told, reports_refuse_none, success_refuses_none}
 use Rattle.ptb_serve.proofs.Mismatches.{unbegun_line, unbegun_told}
 use Rattle.ptb_serve.proofs.WholeInput.{no_fault}

@@ -3,7 +3,7 @@ use Rattle.std.proofs.Common.{rules, ℕ, length, ap, subst, ◌∙◌, arith}
 use Rattle.std.proofs.lemmas.List.{drop_all}
 use Rattle.ptb_text.specs.Device.{HasFailed}
 use Rattle.ptb_text.specs.Statements.{listing}
-use Rattle.ptb_text.proofs.Listed.{GivesProgram-listing, listing-drop}
+use Rattle.ptb_text.proofs.ListedPrograms.{GivesProgram-listing, listing-drop}
 use Rattle.ptb_text.proofs.TakenPieces.{gathers_all, piece_taken, piece_fault, IfErr-passed}
 use Rattle.ptb_text.proofs.TakenPieces.{OnErr-error, OnOk-error}
 use Rattle.ptb_text.proofs.listing.list.Goals as goal

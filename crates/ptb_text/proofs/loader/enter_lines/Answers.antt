@@ -2,7 +2,7 @@
 use Rattle.std.proofs.Common.{◌≡◌, ◌∷◌, drop, Err, refl, sym, ap, ◌∙◌, arith}
 use Rattle.ptb_text.specs.Lines.{lines}
 use Rattle.ptb_text.proofs.LineParts.{no_bytes}
-use Rattle.ptb_text.proofs.Loaded.{drop_next, has_text, accepted, acceptable, refused, all_accepted, none_entered}
+use Rattle.ptb_text.proofs.EnteredLines.{drop_next, has_text, accepted, acceptable, refused, all_accepted, none_entered}
 use Rattle.ptb_text.proofs.loader.enter_lines.Goals as goal
 use Rattle.ptb_text.proofs.loader.enter_lines.Goals.{After-split_line}
 

@@ -3,7 +3,7 @@ use Rattle.std.proofs.Common.{◌≡◌, map, ap, ◌∙◌, arith}
 use Rattle.std.proofs.lemmas.List.{take_at}
 use Rattle.ptb_text.specs.Lines.{tab_as_space}
 use Rattle.ptb_text.specs.Streams.{reads_of}
-use Rattle.ptb_text.proofs.Loaded.{loaded, loaded_reads, loaded_sure, unread_loads, unread_reads, unread_sure}
+use Rattle.ptb_text.proofs.EnteredLines.{loaded, loaded_reads, loaded_sure, unread_loads, unread_reads, unread_sure}
 use Rattle.ptb_text.proofs.loader.load.Goals as goal
 use Rattle.ptb_text.proofs.loader.load.Goals.{After-enter_lines}
 

@@ -1,5 +1,5 @@
 -- This file answers that an answer is the next that is drawn from the seed.
-use Rattle.ptb_answers.proofs.NextDrawn.{drawn_is_answer, drawn_next, grown_by_next}
+use Rattle.ptb_answers.proofs.NextDrawnAnswers.{drawn_is_answer, drawn_next, grown_by_next}
 use Rattle.std.proofs.Common.{◌∙◌}
 use Rattle.ptb_answers.proofs.seeded.SeededChooser.choose.Goals as goal
 

@@ -2,7 +2,7 @@
 use Rattle.std.proofs.Common.{◌≡◌, List, [], ◌∷◌, ap, refl}
 use Rattle.ptb_devices.specs.Sources.{LineList}
 use Rattle.ptb_machine.specs.Questions.{most_answers}
-use Rattle.ptb_chances.specs.Waiting.{Accounted, first_standing}
+use Rattle.ptb_chances.specs.WaitingPlays.{Accounted, first_standing}
 use Rattle.ptb_chances.proofs.SettledPlays.{accounted_first}
 use Rattle.ptb_chances.proofs.count.Count.begin.Goals as goal
 

@@ -1,7 +1,7 @@
 -- This file says that with what is left to be played, the tally is the account of all runs.
 use Rattle.std.proofs.Common.{◌≡◌}
-use Rattle.ptb_chances.specs.Counted.{IsTallied, load_left}
-use Rattle.ptb_chances.specs.Waiting.{standings}
+use Rattle.ptb_chances.specs.CountedRuns.{IsTallied, load_left}
+use Rattle.ptb_chances.specs.WaitingPlays.{standings}
 use Rattle.ptb_chances.proofs.count.Count.finish.Given as goal
 
 abbrev pub invariant-plans : goal.invariant-plans

@@ -2,7 +2,7 @@
 use Rattle.std.proofs.Common.{rules, ◌<◌, w16, FitsSigned, to_z-of_z}
 use Rattle.std.specs.Prelude.{unsigned_abs}
 use Rattle.ptb_machine.specs.Questions.{most_answers}
-use Rattle.ptb_chances.specs.Waiting.{Puts, gone_to, planned, standings}
+use Rattle.ptb_chances.specs.WaitingPlays.{Puts, gone_to, planned, standings}
 use Rattle.ptb_chances.proofs.PassedOn.{on_ok}
 use Rattle.ptb_chances.proofs.Loads.{load_asked, load_gone, load_some}
 use Rattle.ptb_chances.proofs.SettledPlays.{asked_positive, one_opens, planned_less, settled_asked}

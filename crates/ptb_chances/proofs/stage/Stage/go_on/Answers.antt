@@ -1,6 +1,6 @@
 -- This file answers that a run continues command by command.
 use Rattle.std.proofs.Common.{◌≡◌, List, ℕ, [], rules, refl, sym, ap, subst, ◌∙◌, arith, drop}
-use Rattle.ptb_chances.specs.Standing.{SameEnd}
+use Rattle.ptb_chances.specs.StagePlays.{SameEnd}
 use Rattle.ptb_chances.specs.declared.plays.PlayDevices.{PlayDevices}
 use Rattle.ptb_chances.proofs.PlaySteps.{came_first, fits_there}
 use Rattle.ptb_chances.proofs.Continuations.{HasAdvanced, gone, gone_on, gone_opens, gone_over, gone_waits}

@@ -2,7 +2,7 @@
 -- the machine is.
 use Rattle.std.proofs.Common.{◌≡◌, ◌≤◌, ◌-◌, [], false, length, drop}
 use Rattle.ptb_command.specs.State.{State}
-use Rattle.ptb_chances.specs.Standing.{Came, IsStageAt}
+use Rattle.ptb_chances.specs.StagePlays.{Came, IsStageAt}
 use Rattle.ptb_chances.proofs.stage.Stage.go_on.Given as goal
 
 abbrev pub invariant-commands : goal.invariant-commands

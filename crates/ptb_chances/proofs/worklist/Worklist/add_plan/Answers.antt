@@ -1,6 +1,6 @@
 -- This file answers that the plays were put in.
 use Rattle.std.proofs.Common.{rules, ◌++◌, map, subst, FitsSigned, w16, to_z-of_z}
-use Rattle.ptb_chances.specs.Waiting.{Standing, Takes, planned, standings, states_left}
+use Rattle.ptb_chances.specs.WaitingPlays.{Standing, Takes, planned, standings, states_left}
 use Rattle.ptb_chances.proofs.Worklists.{takes_last}
 use Rattle.ptb_chances.proofs.worklist.Worklist.add_plan.Goals as goal
 

@@ -1,7 +1,7 @@
 -- This file says that the plays after the answers so far were put in.
 use Rattle.std.proofs.Common.{◌≡◌, ◌-◌}
 use Rattle.std.specs.Prelude.{pos, ◌≤ℤ◌, unsigned_abs}
-use Rattle.ptb_chances.specs.Waiting.{PutsAnswers, planned, standings}
+use Rattle.ptb_chances.specs.WaitingPlays.{PutsAnswers, planned, standings}
 use Rattle.ptb_chances.proofs.worklist.Worklist.add_plans.Given as goal
 
 abbrev pub invariant-loop-answer : goal.invariant-loop-answer

@@ -3,7 +3,7 @@ use Rattle.std.proofs.Common.{◌≡◌, ◌∙◌, ◌++◌, ◌+◌, ◌-◌, 
 use Rattle.std.proofs.Common.{length-append}
 use Rattle.std.specs.Prelude.{replicate}
 use Rattle.std.proofs.lemmas.List.{length-replicate, length-take, take-replicate}
-use Rattle.ptb_command.proofs.Shown.{block_end, padded_parts}
+use Rattle.ptb_command.proofs.ShownBytes.{block_end, padded_parts}
 use Rattle.ptb_command.proofs.execution.decimals.gather_decimals.Goals as goal
 
 pub append_few-requires : goal.append_few-requires

@@ -1,7 +1,7 @@
 -- This file answers what is left to prove of `gather_value`.
 use Rattle.std.proofs.Common.{◌≡◌, ◌+◌, arith, length, rules, to_z, of_z, w16}
 use Rattle.std.specs.Fmt.{signed_decimal}
-use Rattle.ptb_command.proofs.Shown.{after_blanks, short_decimal}
+use Rattle.ptb_command.proofs.ShownBytes.{after_blanks, short_decimal}
 use Rattle.ptb_command.proofs.execution.decimals.gather_value.Goals as goal
 
 pub write_decimal-start-requires : goal.write_decimal-start-requires

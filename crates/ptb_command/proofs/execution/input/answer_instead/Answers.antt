@@ -1,7 +1,7 @@
 -- This file answers what is left to prove of `answer_instead`.
 use Rattle.std.proofs.Common.{◌≡◌, ◌∙◌, Err, ℤ, ap, refl, subst, rules, to_z, of_z, w16}
 use Rattle.std.specs.Fmt.{signed_decimal}
-use Rattle.ptb_expr.specs.Evaluate.{WorkComes}
+use Rattle.ptb_expr.specs.Evaluation.{WorkComes}
 use Rattle.ptb_expr.specs.Value.{chosen}
 use Rattle.ptb_command.specs.Devices.{refused_answers}
 use Rattle.ptb_command.specs.Act.{store}

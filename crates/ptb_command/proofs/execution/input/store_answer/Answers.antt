@@ -1,11 +1,11 @@
 -- This file answers what is left to prove of `store_answer`.
 use Rattle.std.proofs.Common.{◌≡◌, Ok, Err, ap, refl, rules, subst, to_z, of_z, w16}
 use Rattle.ptb_text.specs.CursorState.{CursorState}
-use Rattle.ptb_expr.specs.Evaluate.{WorkComes, expression_value}
+use Rattle.ptb_expr.specs.Evaluation.{WorkComes, expression_value}
 use Rattle.ptb_command.specs.Devices.{with_choices}
 use Rattle.ptb_command.specs.Traces.{trace}
 use Rattle.ptb_command.proofs.Assignments.{store_refines_part}
-use Rattle.ptb_command.proofs.Gathered.{gathered}
+use Rattle.ptb_command.proofs.GatheredBytes.{gathered}
 use Rattle.ptb_command.proofs.InputItems.{line_values, line_faults, line_pauses}
 use Rattle.ptb_command.proofs.InputItems.{line_worth_stops, line_stored, line_again}
 use Rattle.ptb_command.proofs.execution.input.store_answer.Goals as goal

@@ -8,7 +8,7 @@ use Rattle.ptb_command.specs.Devices.{devices, screen_state}
 use Rattle.ptb_command.specs.CommandIo.{io_devices, io_trace}
 use Rattle.ptb_devices.specs.Sources.{given_lines, ready_lines}
 use Rattle.ptb_command.proofs.Borrows.{borrows_lent}
-use Rattle.ptb_command.proofs.Due.{comes_emptied}
+use Rattle.ptb_command.proofs.PendingBytes.{comes_emptied}
 use Rattle.ptb_command.proofs.InputItems.{gives_same, gives_no_more, gives_one_more, none_given, fewer_left}
 use Rattle.ptb_command.proofs.MissedLines.{given_missed, fewer_lines, falls_one, missed_same}
 use Rattle.ptb_command.proofs.PartRefinement.{refines_part_then}

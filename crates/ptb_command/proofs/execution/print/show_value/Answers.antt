@@ -5,7 +5,7 @@ use Rattle.std.specs.Fmt.{signed_decimal}
 use Rattle.std.specs.Prelude.{replicate}
 use Rattle.std.proofs.lemmas.List.{take-replicate, take_all}
 use Rattle.ptb_command.specs.Act.{padded_decimal}
-use Rattle.ptb_command.proofs.Shown.{padded_parts, short_decimal, shown_as}
+use Rattle.ptb_command.proofs.ShownBytes.{padded_parts, short_decimal, shown_as}
 use Rattle.ptb_command.proofs.execution.print.show_value.Goals as goal
 
 pub write_decimal-start-requires : goal.write_decimal-start-requires

@@ -2,7 +2,7 @@
 use Rattle.std.proofs.Common.{◌≡◌, ◌∙◌, ap, rules, sym, to_z, of_z, w16}
 use Rattle.ptb_command.specs.Act.{width_of}
 use Rattle.ptb_command.proofs.Actions.{known_value, known_fault, stops_fault}
-use Rattle.ptb_command.proofs.Shown.{wide_enough, too_wide}
+use Rattle.ptb_command.proofs.ShownBytes.{wide_enough, too_wide}
 use Rattle.ptb_command.proofs.execution.width.width_of.Goals as goal
 
 pub returns-in-Ok : goal.returns-in-Ok

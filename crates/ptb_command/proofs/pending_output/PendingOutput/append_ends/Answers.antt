@@ -1,6 +1,6 @@
 -- This file answers what is left to prove of `PendingOutput::append_ends`.
 use Rattle.std.proofs.Common.{◌∙◌, ◌+◌, ◌-◌, ◌++◌, ℕ, List, ap, arith, drop, length, take}
-use Rattle.ptb_command.proofs.Shown.{ends_joined}
+use Rattle.ptb_command.proofs.ShownBytes.{ends_joined}
 use Rattle.ptb_command.proofs.pending_output.PendingOutput.append_ends.Goals as goal
 
 pub returns : goal.returns

@@ -1,6 +1,6 @@
 -- This file answers what is left to prove of `PendingOutput::append_few`.
 use Rattle.std.proofs.Common.{◌∙◌, ◌+◌, ℕ, List, ap, length, take}
-use Rattle.ptb_command.proofs.Shown.{few_kept}
+use Rattle.ptb_command.proofs.ShownBytes.{few_kept}
 use Rattle.ptb_command.proofs.pending_output.PendingOutput.append_few.Goals as goal
 
 pub returns : goal.returns

@@ -1,7 +1,7 @@
 -- This file answers what is left to prove of `PendingOutput::flush`.
 use Rattle.ptb_command.specs.Stops.{stopped}
-use Rattle.ptb_command.proofs.Gathered.{flush_comes}
-use Rattle.ptb_command.proofs.Shown.{put_comes, shown_as}
+use Rattle.ptb_command.proofs.GatheredBytes.{flush_comes}
+use Rattle.ptb_command.proofs.ShownBytes.{put_comes, shown_as}
 use Rattle.ptb_command.proofs.pending_output.PendingOutput.flush.Goals as goal
 
 pub returns-clause-comes : goal.returns-clause-comes

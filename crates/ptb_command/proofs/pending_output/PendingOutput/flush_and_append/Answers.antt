@@ -1,6 +1,6 @@
 -- This file answers what is left to prove of `PendingOutput::flush_and_append`.
 use Rattle.std.proofs.Common.{refl}
-use Rattle.ptb_command.proofs.Gathered.{unflushed, flushed_gathered, flushed_shown}
+use Rattle.ptb_command.proofs.GatheredBytes.{unflushed, flushed_gathered, flushed_shown}
 use Rattle.ptb_command.proofs.Stops.{comes_err}
 use Rattle.ptb_command.proofs.pending_output.PendingOutput.flush_and_append.Goals as goal
 

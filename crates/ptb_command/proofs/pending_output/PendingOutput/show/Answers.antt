@@ -2,7 +2,7 @@
 use Rattle.std.proofs.Common.{refl}
 use Rattle.ptb_command.specs.Devices.{screen_state, with_screen}
 use Rattle.ptb_command.specs.Traces.{trace}
-use Rattle.ptb_command.proofs.Gathered.{gathered}
+use Rattle.ptb_command.proofs.GatheredBytes.{gathered}
 use Rattle.ptb_command.proofs.pending_output.PendingOutput.show.Goals as goal
 
 pub returns-then-try_append-clause-comes : goal.returns-then-try_append-clause-comes

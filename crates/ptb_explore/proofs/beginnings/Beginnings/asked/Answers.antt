@@ -1,6 +1,6 @@
 -- This file answers that a search has the bounds of the answers at which it is.
 use Rattle.std.proofs.Common.{◌∙◌, ap, refl}
-use Rattle.ptb_answers.specs.Asked.{answers_in, bounds_in}
+use Rattle.ptb_answers.specs.AskedQuestions.{answers_in, bounds_in}
 use Rattle.ptb_explore.proofs.WrittenLines.{bounds_of_search}
 use Rattle.ptb_explore.proofs.beginnings.Beginnings.asked.Goals as goal
 

@@ -4,7 +4,7 @@ use Rattle.std.proofs.Common.{◌≡◌, ◌∙◌, ap}
 use Rattle.ptb_answers.specs.AnswerText.{answers_of}
 use Rattle.ptb_machine.specs.Play.{play}
 use Rattle.ptb_explore.proofs.RunPrefix.{program_laws}
-use Rattle.ptb_explore.proofs.Stated.{unmarked_answers, unmarked_run, unmarked_run_ok}
+use Rattle.ptb_explore.proofs.StatedBounds.{unmarked_answers, unmarked_run, unmarked_run_ok}
 use Rattle.ptb_explore.proofs.explorer.Explorer.after.Goals as goal
 use Rattle.ptb_explore.proofs.explorer.Explorer.after.Goals.{After-deref}
 

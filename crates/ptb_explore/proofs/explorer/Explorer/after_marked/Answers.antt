@@ -3,7 +3,7 @@ use Rattle.std.proofs.Common.{refl}
 use Rattle.std.proofs.lemmas.Result.{IfOk-weaker}
 use Rattle.ptb_answers.specs.AnswerText.{answers_of}
 use Rattle.ptb_machine.specs.Play.{play}
-use Rattle.ptb_explore.proofs.Opened.{none_fits}
+use Rattle.ptb_explore.proofs.OpenedExplorers.{none_fits}
 use Rattle.ptb_explore.proofs.Runners.{added_alone}
 use Rattle.ptb_explore.proofs.explorer.Explorer.after_marked.Goals as goal
 

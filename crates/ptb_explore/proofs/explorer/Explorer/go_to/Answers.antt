@@ -3,7 +3,7 @@
 use Rattle.std.proofs.Common.{◌≡◌, ◌∙◌, [], ap, sym, subst, refl, true}
 use Rattle.ptb_answers.specs.AnswerText.{answers_of}
 use Rattle.ptb_machine.specs.Questions.{most_answers}
-use Rattle.ptb_answers.specs.Asked.{answers_in}
+use Rattle.ptb_answers.specs.AskedQuestions.{answers_in}
 use Rattle.ptb_explore.specs.Explorations.{Exploration, IsAdded, exploration, game_of, play_of}
 use Rattle.ptb_explore.specs.Copies.{kept_runs}
 use Rattle.ptb_explore.specs.Plans.{front_at}
@@ -12,7 +12,7 @@ use Rattle.ptb_explore.specs.Mismatch.{IsRunMismatch}
 use Rattle.ptb_machine.specs.RunTree.{At, begins_with}
 use Rattle.ptb_explore.proofs.Exits.{ok_no_err, passed_on}
 use Rattle.ptb_explore.proofs.Mismatches.{alone_is_under, run_closes}
-use Rattle.ptb_explore.proofs.Opened.{at_run, gone_kept, gone_view}
+use Rattle.ptb_explore.proofs.OpenedExplorers.{at_run, gone_kept, gone_view}
 use Rattle.ptb_explore.proofs.explorer.Explorer.go_to.Goals as goal
 
 pub invariant_of-self : goal.invariant_of-self

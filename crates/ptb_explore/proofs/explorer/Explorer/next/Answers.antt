@@ -3,7 +3,7 @@ use Rattle.std.proofs.Common.{rules, ◌≡◌, ℕ, List, [], true, refl, ap, s
 use Rattle.ptb_answers.specs.AnswerText.{answers_of}
 use Rattle.ptb_answers.specs.Outcome.{Answers}
 use Rattle.ptb_answers.specs.declared.asked.Asked.{Asked}
-use Rattle.ptb_answers.specs.Asked.{answers_in}
+use Rattle.ptb_answers.specs.AskedQuestions.{answers_in}
 use Rattle.ptb_explore.specs.declared.runner.Runner.{Runner}
 use Rattle.ptb_explore.specs.Copies.{KeptRun, kept_runs}
 use Rattle.ptb_explore.specs.Explorations.{Exploration, FoundNext, NextPlays, RefusedNext}
@@ -12,8 +12,8 @@ use Rattle.ptb_explore.specs.Plans.{front_at}
 use Rattle.ptb_machine.specs.RunTree.{At, Front, IsLast}
 use Rattle.ptb_explore.proofs.Exits.{err_no_ok}
 use Rattle.ptb_explore.proofs.ContinuedCopies.{none_at}
-use Rattle.ptb_explore.proofs.Keep.{kept_beginnings}
-use Rattle.ptb_explore.proofs.Opened.{stays}
+use Rattle.ptb_explore.proofs.KeptCopies.{kept_beginnings}
+use Rattle.ptb_explore.proofs.OpenedExplorers.{stays}
 use Rattle.ptb_explore.proofs.explorer.Explorer.next.Goals as goal
 
 -- what contracts see of an explorer with this runner

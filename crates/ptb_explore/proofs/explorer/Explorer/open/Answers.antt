@@ -11,7 +11,8 @@ use Rattle.ptb_explore.specs.MarkedRuns.{IsMarkedRun}
 use Rattle.ptb_machine.specs.RunTree.{begins_with}
 use Rattle.ptb_explore.proofs.Exits.{on_ok_always, passed_on}
 use Rattle.ptb_explore.proofs.Mismatches.{mismatch_closes}
-use Rattle.ptb_explore.proofs.Opened.{IsBefore, before_all, before_begun, before_game, before_opens, misfit_opened}
+use Rattle.ptb_explore.proofs.OpenedExplorers.{IsBefore, before_all, before_begun, before_game, before_opens}
+use Rattle.ptb_explore.proofs.OpenedExplorers.{misfit_opened}
 use Rattle.ptb_explore.proofs.RunPrefix.{program_laws}
 use Rattle.ptb_explore.proofs.explorer.Explorer.«open».Goals as goal
 use Rattle.ptb_explore.proofs.explorer.Explorer.«open».Goals.{Joined-not-is_empty}

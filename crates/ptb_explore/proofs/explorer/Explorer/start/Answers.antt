@@ -1,7 +1,7 @@
 -- This file answers that memory alone can be missing where all runs are explored.
 use Rattle.std.proofs.Common.{◌∙◌, ap, Err}
 use Rattle.ptb_machine.specs.Play.{play}
-use Rattle.ptb_explore.proofs.Opened.{none_fits}
+use Rattle.ptb_explore.proofs.OpenedExplorers.{none_fits}
 use Rattle.ptb_explore.proofs.explorer.Explorer.start.Goals as goal
 
 pub unreachable-requires : goal.unreachable-requires

@@ -1,6 +1,6 @@
 -- This file answers that an explorer is before the runs that begin with a list where it is at no run.
 use Rattle.ptb_answers.specs.AnswerText.{answers_of}
-use Rattle.ptb_explore.proofs.Opened.{first_view}
+use Rattle.ptb_explore.proofs.OpenedExplorers.{first_view}
 use Rattle.ptb_explore.proofs.explorer.Explorer.under.Goals as goal
 
 pub returns-clause-under : goal.returns-clause-under

@@ -5,7 +5,7 @@ use Rattle.std.proofs.lemmas.List.{map-append, take_more}
 use Rattle.ptb_answers.specs.declared.asked.Asked.{Asked}
 use Rattle.ptb_answers.specs.declared.form.Marked.{Marked}
 use Rattle.ptb_answers.specs.AnswerText.{answers_of, without_bound}
-use Rattle.ptb_answers.specs.Asked.{answers_in}
+use Rattle.ptb_answers.specs.AskedQuestions.{answers_in}
 use Rattle.ptb_explore.specs.Recorders.{recorded}
 use Rattle.ptb_explore.proofs.recorder.Recorder.replay.Goals as goal
 

@@ -4,9 +4,9 @@ use Rattle.std.proofs.Common.{replicate, take_all, vec_len}
 use Rattle.std.specs.Prelude.{ℤ, pos}
 use Rattle.std.proofs.lemmas.List.{map-append}
 use Rattle.ptb_answers.specs.declared.asked.Asked.{Asked}
-use Rattle.ptb_answers.specs.Asked.{answers_in}
+use Rattle.ptb_answers.specs.AskedQuestions.{answers_in}
 use Rattle.ptb_explore.specs.Recorders.{recorded}
-use Rattle.ptb_explore.proofs.Recorded.{recorded_len}
+use Rattle.ptb_explore.proofs.RecordedAnswers.{recorded_len}
 use Rattle.ptb_explore.proofs.recorder.Recorder.stop_after.Goals as goal
 
 repeated_answers : (n : ℕ) (q : Asked) → answers_in (replicate n q) ≡ replicate n q.answer

@@ -7,11 +7,11 @@ use Rattle.std.proofs.lemmas.Bool.{cases_lt}
 use Rattle.std.proofs.lemmas.List.{map-append}
 use Rattle.ptb_answers.specs.Choices.{with_answers}
 use Rattle.ptb_answers.specs.declared.asked.Asked.{Asked}
-use Rattle.ptb_answers.specs.Asked.{answers_in}
+use Rattle.ptb_answers.specs.AskedQuestions.{answers_in}
 use Rattle.ptb_explore.specs.Recorders.{recorder_choices, given_bounds, recorded}
 use Rattle.ptb_explore.proofs.AskedLists.{answer_at}
-use Rattle.ptb_explore.proofs.Given.{answers_stay, grown_after_plan, grown_in_plan, held}
-use Rattle.ptb_explore.proofs.Recorded.{given_len, recorded_len}
+use Rattle.ptb_explore.proofs.GivenAnswers.{answers_stay, grown_after_plan, grown_in_plan, held}
+use Rattle.ptb_explore.proofs.RecordedAnswers.{given_len, recorded_len}
 use Rattle.ptb_explore.proofs.RecorderPlans.{next_planned, ones_push}
 use Rattle.ptb_explore.proofs.recorder.RecorderChooser.choose.Goals as goal
 

@@ -1,6 +1,6 @@
 -- This file answers that the text of a report is its header and what comes after it.
 use Rattle.std.proofs.Common.{arith, ◌∙◌, ◌<◌, ◌++◌, ap, length, refl}
-use Rattle.ptb_explore.specs.Begun.{begun, marked_items}
+use Rattle.ptb_explore.specs.ReportHeaders.{begun, marked_items}
 use Rattle.ptb_explore.specs.ReportText.{asked_items, report_ending}
 use Rattle.ptb_explore.proofs.HeaderPrefixes.{begins_longer, report_from_begun}
 use Rattle.ptb_explore.proofs.AskedLists.{length-asked_items}

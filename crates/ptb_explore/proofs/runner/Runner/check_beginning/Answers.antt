@@ -12,8 +12,8 @@ use Rattle.ptb_machine.specs.RunTree.{Start, IsNextRun}
 use Rattle.ptb_explore.proofs.BegunRuns.{list_opens, begun_stated}
 use Rattle.ptb_explore.proofs.Exits.{same_misfit}
 use Rattle.ptb_explore.proofs.Mismatches.{answers_length, if_none_at, if_some_at}
-use Rattle.ptb_explore.proofs.Next.{next_same}
-use Rattle.ptb_explore.proofs.Recorded.{fresh_from}
+use Rattle.ptb_explore.proofs.NextRuns.{next_same}
+use Rattle.ptb_explore.proofs.RecordedAnswers.{fresh_from}
 use Rattle.ptb_explore.proofs.RaisedAnswers.{plan_ends, start_plan}
 use Rattle.ptb_explore.proofs.PlayedRecorders.{begun_opens, open_ends, result_is}
 use Rattle.ptb_explore.proofs.runner.Runner.check_beginning.Goals as goal

@@ -2,7 +2,7 @@
 use Rattle.std.proofs.Common.{◌≡◌, ◌∙◌, ◌<◌, [], length, refl, ap, sym, subst}
 use Rattle.ptb_answers.specs.AnswerText.{answers_of}
 use Rattle.ptb_answers.specs.Outcome.{bounds}
-use Rattle.ptb_answers.specs.Asked.{answers_in, bounds_in}
+use Rattle.ptb_answers.specs.AskedQuestions.{answers_in, bounds_in}
 use Rattle.ptb_machine.specs.Play.{Finish}
 use Rattle.ptb_machine.specs.Questions.{most_answers}
 use Rattle.ptb_explore.specs.Copies.{more_played, play_limit}
@@ -12,9 +12,9 @@ use Rattle.ptb_explore.specs.Mismatch.{IsRunMismatch}
 use Rattle.ptb_explore.specs.Recorders.{recorder_choices, given_bounds, recorded}
 use Rattle.ptb_machine.specs.RunTree.{IsRun}
 use Rattle.ptb_explore.proofs.Exits.{ok_no_err, same_reason}
-use Rattle.ptb_explore.proofs.Keep.{kept_same}
+use Rattle.ptb_explore.proofs.KeptCopies.{kept_same}
 use Rattle.ptb_explore.proofs.Mismatches.{answers_length, if_none_at, if_some_at}
-use Rattle.ptb_explore.proofs.Recorded.{fresh_from}
+use Rattle.ptb_explore.proofs.RecordedAnswers.{fresh_from}
 use Rattle.ptb_explore.proofs.Runners.{changed}
 use Rattle.ptb_explore.proofs.PlayedRecorders.{all_bounds, all_given, result_is, whole_plan}
 use Rattle.ptb_explore.proofs.runner.Runner.check_run.Goals as goal

@@ -4,14 +4,14 @@ use Rattle.std.specs.Prelude.{option_map}
 use Rattle.std.proofs.lemmas.Result.{IfOk-from_err}
 use Rattle.ptb_command.specs.Configuration.{Configuration}
 use Rattle.ptb_devices.specs.Sources.{LineList}
-use Rattle.ptb_answers.specs.Asked.{answers_in, bounds_in}
+use Rattle.ptb_answers.specs.AskedQuestions.{answers_in, bounds_in}
 use Rattle.ptb_explore.specs.Recorders.{given_bounds, recorded}
 use Rattle.ptb_explore.specs.Copies.{GoesBackTo, machine_of, steps_or_none}
 use Rattle.ptb_explore.proofs.ContinuedCopies.{on_copies, on_len, on_prefix}
-use Rattle.ptb_explore.proofs.Keep.{GoesOn, goes_on, kept_none, stands_machine}
+use Rattle.ptb_explore.proofs.KeptCopies.{GoesOn, goes_on, kept_none, stands_machine}
 use Rattle.ptb_explore.proofs.Exits.{on_ok_always}
 use Rattle.ptb_explore.proofs.RestoredCopies.{same_plan, none_taken, no_copies, begun_prefix, begun_steps, copy_left}
-use Rattle.ptb_explore.proofs.Recorded.{skipped_bounds}
+use Rattle.ptb_explore.proofs.RecordedAnswers.{skipped_bounds}
 use Rattle.ptb_explore.proofs.PlayedRecorders.{fresh_plan}
 use Rattle.ptb_explore.proofs.AskedLists.{length-bounds_in}
 use Rattle.ptb_explore.proofs.runner.Runner.go_back.Goals as goal

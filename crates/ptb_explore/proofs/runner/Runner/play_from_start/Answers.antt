@@ -6,8 +6,8 @@ use Rattle.ptb_machine.specs.Play.{play}
 use Rattle.ptb_explore.specs.Copies.{AreCopies}
 use Rattle.ptb_explore.specs.PlannedPlays.{PlayEnds}
 use Rattle.ptb_explore.specs.Recorders.{recorder_choices, recorded}
-use Rattle.ptb_explore.proofs.Keep.{kept_none}
-use Rattle.ptb_explore.proofs.Recorded.{fresh_bounds}
+use Rattle.ptb_explore.proofs.KeptCopies.{kept_none}
+use Rattle.ptb_explore.proofs.RecordedAnswers.{fresh_bounds}
 use Rattle.ptb_explore.proofs.RunPrefix.{run_prefix_at_first}
 use Rattle.ptb_explore.proofs.Runners.{reported}
 use Rattle.ptb_explore.proofs.PlayedRecorders.{fresh_plan}

@@ -5,13 +5,13 @@ use Rattle.std.proofs.lemmas.Bool.{false≢true}
 use Rattle.std.proofs.lemmas.List.{length-take-le}
 use Rattle.ptb_machine.specs.Play.{play}
 use Rattle.ptb_answers.specs.Outcome.{Answers}
-use Rattle.ptb_explore.proofs.Recorded.{given_len, recorded_len}
+use Rattle.ptb_explore.proofs.RecordedAnswers.{given_len, recorded_len}
 use Rattle.ptb_explore.specs.Copies.{AreTakenBy, IsCopyAt, taken_choices}
 use Rattle.ptb_explore.specs.PlannedPlays.{IsRunPrefix, PlayEnds}
 use Rattle.ptb_explore.specs.Recorders.{RefusedByPlan, recorder_choices, given_bounds, recorded}
 use Rattle.ptb_explore.specs.declared.recorder.Recorder.{Recorder}
 use Rattle.ptb_explore.proofs.Limits.{taken_by}
-use Rattle.ptb_explore.proofs.Keep.{kept_longer, kept_more, kept_same}
+use Rattle.ptb_explore.proofs.KeptCopies.{kept_longer, kept_more, kept_same}
 use Rattle.ptb_explore.proofs.RunPrefix.{advanced, step_goes, step_ends, step_extends, prefix_to}
 use Rattle.ptb_explore.proofs.RunPrefix.{taken_within, none_follow, only_memory}
 use Rattle.ptb_explore.proofs.Runners.{stepped}

@@ -10,7 +10,7 @@ use Rattle.ptb_explore.specs.Copies.{last_steps, more_played, play_limit}
 use Rattle.ptb_explore.specs.PlannedPlays.{PlayEnds}
 use Rattle.ptb_explore.specs.Recorders.{recorder_choices}
 use Rattle.ptb_explore.proofs.RestoredCopies.{agrees_same, prefix_of_same}
-use Rattle.ptb_explore.proofs.Keep.{kept_same}
+use Rattle.ptb_explore.proofs.KeptCopies.{kept_same}
 use Rattle.ptb_explore.proofs.Runners.{copies_stay, counted, game_is, still_same}
 use Rattle.ptb_explore.proofs.runner.Runner.play_plan.Goals as goal
 

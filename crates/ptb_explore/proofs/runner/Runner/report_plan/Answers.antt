@@ -2,13 +2,13 @@
 -- are of it.
 use Rattle.std.proofs.Common.{◌∙◌, ap, refl, sym}
 use Rattle.std.proofs.lemmas.Result.{IfOk-from_err}
-use Rattle.ptb_answers.specs.Asked.{answers_in}
+use Rattle.ptb_answers.specs.AskedQuestions.{answers_in}
 use Rattle.ptb_machine.specs.Play.{play}
 use Rattle.ptb_machine.specs.Questions.{most_answers}
 use Rattle.ptb_explore.specs.Plans.{PlanEndsWith}
 use Rattle.ptb_explore.specs.Recorders.{recorder_choices, given_bounds, recorded}
 use Rattle.ptb_explore.proofs.WrittenTexts.{on_err_always}
-use Rattle.ptb_explore.proofs.Keep.{kept_same}
+use Rattle.ptb_explore.proofs.KeptCopies.{kept_same}
 use Rattle.ptb_explore.proofs.Runners.{changed}
 use Rattle.ptb_explore.proofs.PlayedRecorders.{all_bounds, all_given, open_ends}
 use Rattle.ptb_explore.proofs.runner.Runner.report_plan.Goals as goal

@@ -3,7 +3,7 @@ use Rattle.std.proofs.Common.{◌≡◌, [], rules, subst, sym, to_z, of_z, w16}
 use Rattle.ptb_expr.specs.declared.short_value.ShortValue.{ShortValue}
 use Rattle.ptb_expr.specs.declared.short_value.ShortValue.TheVariants as values
 use Rattle.ptb_answers.specs.Outcome.{success}
-use Rattle.ptb_expr.specs.Short.{IsShortOf}
+use Rattle.ptb_expr.specs.ShortValues.{IsShortOf}
 use Rattle.ptb_expr.specs.TreeSteps.{run}
 use Rattle.ptb_machine.specs.declared.short_forms.short_command.ShortCommand.TheVariants as commands
 use Rattle.ptb_command.specs.Code.{steps_at}

@@ -1,7 +1,7 @@
 -- This file answers which list is misspelled first, and proves goals of `misspelled` by short searches, so that a
 -- planted bug is refused soon.
 use Rattle.std.proofs.Common.{rules}
-use Rattle.ptb_options.proofs.ListsKept.{after_is_first, answers_are_first}
+use Rattle.ptb_options.proofs.KeptLists.{after_is_first, answers_are_first}
 use Rattle.ptb_options.proofs.given_options.GivenOptions.misspelled.Goals as goal
 
 pub returns-in-Some-clause-some : goal.returns-in-Some-clause-some

@@ -1,7 +1,7 @@
 -- This file answers that memory is wanted only for the items of lists, and proves goals of `mode` by short searches,
 -- so that a planted bug is refused soon.
 use Rattle.std.proofs.Common.{rules}
-use Rattle.ptb_options.proofs.ListsKept.{after_refused, answers_refused, under_refused}
+use Rattle.ptb_options.proofs.KeptLists.{after_refused, answers_refused, under_refused}
 use Rattle.ptb_options.proofs.given_options.GivenOptions.mode.Goals as goal
 
 pub returns-then-self-4-clause-ok : goal.returns-then-self-4-clause-ok

@@ -1,7 +1,7 @@
 -- This file answers what is left to prove of `Program::cost`.
 use Rattle.std.proofs.Common.{arith, ◌≡◌, ◌≤◌, ◌+◌, ◌*◌}
 use Rattle.ptb_text.specs.Statements.{cost}
-use Rattle.ptb_text.proofs.Stored.{HasSizes-from_kept}
+use Rattle.ptb_text.proofs.StoredLines.{HasSizes-from_kept}
 use Rattle.ptb_text.proofs.program.Program.cost.Goals as goal
 use Rattle.ptb_text.proofs.program.Program.cost.Goals.{After-len-2}
 

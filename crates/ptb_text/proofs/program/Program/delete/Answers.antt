@@ -10,9 +10,9 @@ use Rattle.ptb_text.specs.Statements.{without_number}
 use Rattle.ptb_text.proofs.Edits.{cost-without_place, is_program-without_number}
 use Rattle.ptb_text.proofs.Entries.{without_number-gap, without_number-place}
 use Rattle.ptb_text.proofs.Pool.{IsEntry, laid_items, lengths-part}
-use Rattle.ptb_text.proofs.Stored.{IsEntry-shown, IsLayout, IsLayout-from_kept, IsLayout-remove}
-use Rattle.ptb_text.proofs.Stored.{IsKept-from_layout, HasSizes-from_kept, lines_shown}
-use Rattle.ptb_text.proofs.Stored.{memory_shown, is_program_shown}
+use Rattle.ptb_text.proofs.StoredLines.{IsEntry-shown, IsLayout, IsLayout-from_kept, IsLayout-remove}
+use Rattle.ptb_text.proofs.StoredLines.{IsKept-from_layout, HasSizes-from_kept, lines_shown}
+use Rattle.ptb_text.proofs.StoredLines.{memory_shown, is_program_shown}
 use Rattle.ptb_text.proofs.program.Program.delete.Goals as goal
 use Rattle.ptb_text.proofs.program.Program.delete.Goals.{After-end, After-lay_out}
 

@@ -8,7 +8,7 @@ use Rattle.ptb_text.specs.Statements.{StoredProgram}
 use Rattle.ptb_text.proofs.Pool.{lengths-part}
 use Rattle.ptb_text.proofs.StoredTexts.{IsKept-same, insert_enters, insert_kept, insert_size}
 use Rattle.ptb_text.proofs.StoredTexts.{store_full, store_refused, short_text, grown_cost}
-use Rattle.ptb_text.proofs.Stored.{HasSizes-from_kept, length_shown, memory_shown, same_shown}
+use Rattle.ptb_text.proofs.StoredLines.{HasSizes-from_kept, length_shown, memory_shown, same_shown}
 use Rattle.ptb_text.proofs.program.Program.insert.Goals as goal
 use Rattle.ptb_text.proofs.program.Program.insert.Goals.{After-place_of-place, After-unwrap}
 

@@ -6,7 +6,7 @@ use Rattle.std.proofs.lemmas.Option.{get_or_from_slice_get}
 use Rattle.ptb_text.specs.Statements.{text_under}
 use Rattle.ptb_text.proofs.Numbers.{is_whole, text_under-absent, text_under-unconverted, IsAt-found, if_none, on_none}
 use Rattle.ptb_text.proofs.Entries.{text_at-place}
-use Rattle.ptb_text.proofs.Sound.{StatementFacts_at}
+use Rattle.ptb_text.proofs.SoundPrograms.{StatementFacts_at}
 use Rattle.ptb_text.proofs.program.Program.line.Goals as goal
 
 -- no statement has a number below 0

@@ -5,8 +5,8 @@ use Rattle.std.proofs.lemmas.Option.{slice_get-get_or}
 use mir.Syntax.{w16}
 use mir.Val.{to_z}
 use Rattle.ptb_text.specs.Statements.{is_program}
-use Rattle.ptb_text.proofs.Sound.{text_at-number}
-use Rattle.ptb_text.proofs.Stored.{IsShownAt, IsShownAt-from_read}
+use Rattle.ptb_text.proofs.SoundPrograms.{text_at-number}
+use Rattle.ptb_text.proofs.StoredLines.{IsShownAt, IsShownAt-from_read}
 use Rattle.ptb_text.proofs.program.Program.number_at.Goals as goal
 use Rattle.ptb_text.proofs.program.Program.number_at.Goals.{In_ok-statement}
 

@@ -2,7 +2,7 @@
 use Rattle.std.proofs.Common.{sym, ap, ◌∙◌, arith}
 use Rattle.std.proofs.lemmas.List.{take_all}
 use Rattle.ptb_text.specs.Program.{texts_length}
-use Rattle.ptb_text.proofs.Stored.{HasSizes-from_kept, IsEntry-shown}
+use Rattle.ptb_text.proofs.StoredLines.{HasSizes-from_kept, IsEntry-shown}
 use Rattle.ptb_text.proofs.program.Program.place_of.Goals as goal
 
 pub overflow_cast-result : goal.overflow_cast-result

@@ -6,7 +6,7 @@ use Rattle.ptb_text.specs.Program.{lengths}
 use Rattle.ptb_text.proofs.Pool.{IsEntry, lengths-part}
 use Rattle.ptb_text.proofs.StoredTexts.{IsKept-same, replace_cost, replace_enters, replace_kept}
 use Rattle.ptb_text.proofs.StoredTexts.{replace_size, store_full, store_refused, short_text, grown_cost}
-use Rattle.ptb_text.proofs.Stored.{IsEntry-shown, HasSizes-from_kept, memory_shown, stored_place}
+use Rattle.ptb_text.proofs.StoredLines.{IsEntry-shown, HasSizes-from_kept, memory_shown, stored_place}
 use Rattle.ptb_text.proofs.program.Program.replace.Goals as goal
 use Rattle.ptb_text.proofs.program.Program.replace.Goals.{After-from}
 

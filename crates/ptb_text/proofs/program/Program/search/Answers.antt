@@ -7,7 +7,7 @@ use Rattle.ptb_text.specs.declared.program.Statement.{Statement}
 use Rattle.ptb_text.specs.Places.{IsGapFor}
 use Rattle.ptb_text.proofs.Pool.{shown}
 use Rattle.ptb_text.proofs.Searches.{IsSearched, searched, IsGapFor-end}
-use Rattle.ptb_text.proofs.Sound.{both_true}
+use Rattle.ptb_text.proofs.SoundPrograms.{both_true}
 use Rattle.ptb_text.proofs.program.Program.search.Goals as goal
 use Rattle.ptb_text.proofs.program.Program.search.Goals.{After-binary_search_by_key, After-len}
 use Rattle.ptb_text.proofs.program.Program.search.Goals.{in_default-via-in-Some+else-last-number}

@@ -2,9 +2,9 @@
 use Rattle.std.proofs.Common.{[], Some, ap, ◌∙◌, arith}
 use Rattle.std.proofs.lemmas.Option.{slice_get-get_or}
 use Rattle.ptb_text.proofs.Pool.{IsEntry}
-use Rattle.ptb_text.proofs.Sound.{StatementFacts, StatementFacts_at}
+use Rattle.ptb_text.proofs.SoundPrograms.{StatementFacts, StatementFacts_at}
 use Rattle.ptb_text.specs.Program.{text_in}
-use Rattle.ptb_text.proofs.Stored.{line_read, is_program_shown, HasSizes-from_kept, IsEntry-shown}
+use Rattle.ptb_text.proofs.StoredLines.{line_read, is_program_shown, HasSizes-from_kept, IsEntry-shown}
 use Rattle.ptb_text.proofs.program.Program.statement_at.Goals as goal
 use Rattle.ptb_text.proofs.program.Program.statement_at.Goals.{After-index}
 

@@ -1,0 +1,517 @@
+-- This file proves the result of a run that goes by a list of answers, from a complete run with a chooser, a screen
+-- over a writer and a list of lines.
+-- Main lemma: `run_between`.
+use Rattle.std.proofs.Common.{◌≡◌, ℕ, ◌+◌, ◌≤◌, ◌⊎◌, inl, inr, Bool, true, false, List, [], ◌++◌}
+use Rattle.std.proofs.Common.{length, take, Option, Some, None, Result, Ok, Err, IfOk, IsErrOf, ℤ}
+use Rattle.std.proofs.Common.{refl, sym, ap, subst, ◌∙◌, arith, append-nil, length-append}
+use Rattle.std.specs.Borrow.{MutBor}
+use Rattle.std.specs.Io.KnownBytes.{Appends}
+use Rattle.std.proofs.KnownBytes.{Appends-nil}
+use Rattle.std.proofs.Math.Seq.{take-append_seam}
+use Rattle.ptb_text.specs.Device.{HasFailed, TakesSome}
+use Rattle.ptb_text.specs.Statements.{StoredProgram}
+use Rattle.ptb_answers.specs.declared.pause.Pause.{Pause}
+use Rattle.ptb_answers.specs.declared.pause.Pause.TheVariants as pauses
+use Rattle.ptb_answers.specs.Outcome.{Answers, Outcome, Done, Asks, Out}
+use Rattle.ptb_answers.specs.Choices.{AsksFor, Choices, with_answers}
+use Rattle.ptb_command.specs.declared.ending.Ending.{Ending}
+use Rattle.ptb_command.specs.declared.ending.Ending.TheVariants as endings
+use Rattle.ptb_machine.specs.declared.fault.RunFault.{RunFault}
+use Rattle.ptb_machine.specs.declared.fault.RunFault.TheVariants as runs
+use Rattle.ptb_answers.specs.declared.rules.Rules.{Rules}
+use Rattle.ptb_machine.specs.declared.run_end.RunEnd.{RunEnd}
+use Rattle.ptb_machine.specs.Play.{Finish, play, stopping_line, unasked_lines, plain, plain_of}
+use Rattle.ptb_command.specs.Effects.{Begins}
+use Rattle.ptb_text.specs.declared.device_fault.DeviceFault.{DeviceFault}
+use Rattle.ptb_text.specs.declared.device_fault.DeviceFault.TheVariants as reads
+use Rattle.ptb_devices.specs.Sources.{NoneLeft}
+use Rattle.ptb_command.specs.Breakage.{Breakage}
+use Rattle.ptb_command.specs.Breakage as errors
+use Rattle.ptb_command.specs.Devices.{ScreenState, Devices, devices, with_failures, Exchange, Refusal, refused_by}
+use Rattle.ptb_command.specs.Stops.{UnlessMissed}
+use Rattle.ptb_machine.specs.PlayResults.{played_bytes, Plays, IsFinished, IsUnanswered}
+use Rattle.ptb_machine.specs.PlayResults.{IsUnfinished, LacksInput, RunComes}
+use Rattle.ptb_machine.specs.Runs.{run_miss, Runs, StopsAt, IsLineOf}
+use Rattle.ptb_machine.proofs.Endings.{HasRunEnding, play_ends}
+use Rattle.ptb_machine.specs.MemoryNotes.{ended_for, noted, noted_result}
+use Rattle.ptb_machine.specs.PlainRuns.{ShowsRun, ShowsQuestion, ShowsUnread, lines_taken, IsLed, GoesBy}
+
+-- ---- lists
+
+pub takes_beginning : (old new : Option (List ℕ)) (bytes all : List ℕ) → Appends old new bytes → Begins bytes all
+    → TakesSome old new all
+takes_beginning old new bytes all h begins =
+    let size : length all ≡ length bytes + length begins.0 = ap length begins.1 ∙ length-append bytes begins.0 in
+    let front : take (length bytes) all ≡ bytes = ap (take (length bytes)) begins.1 ∙ take-append_seam bytes begins.0 in
+    (length bytes, omega arith, subst (Appends old new) (sym front) h)
+
+-- ---- what is left of a run
+
+plain_bytes : (left : Outcome Finish (List ℕ)) → (plain_of left).0 ≡ played_bytes left
+plain_bytes (Done f rest) = refl
+plain_bytes (Asks n shown) = refl
+plain_bytes (Out n shown) = refl
+
+-- ---- a complete run
+
+pub takes_all : (old new : Option (List ℕ)) (bytes : List ℕ) → Appends old new bytes → TakesSome old new bytes
+takes_all old new bytes h = takes_beginning old new bytes bytes h ([], sym (append-nil bytes))
+
+-- what is said of a run with these answers and lines, between two states of its screen
+pub record IsPlainRun (p : StoredProgram) (rules : Rules) (lines : List (List ℕ)) (a : Answers) (refuses : Pause → ℤ
+    → Type 0) (old new : ScreenState) (result : Result Ending RunFault) : Type 0 where
+  pub same_borrow : new.borrow ≡ old.borrow
+  pub ok : IfOk result (ShowsRun (plain p lines rules a) old.shown new.shown)
+  pub beginning : TakesSome old.shown new.shown (plain p lines rules a).0
+  pub failed : IsErrOf result runs.Write → HasFailed old.failures new.failures
+  pub memory : IsErrOf result runs.Memory
+      → Appends old.shown new.shown []
+      ⊎ (((n : ℤ) × refuses pauses.Memory n) × ShowsQuestion (plain p lines rules) a old.shown new.shown)
+  pub unfailed : (IsErrOf result runs.Write → ⊥) → new.failures ≡ old.failures
+  pub unspent : IsErrOf result runs.Spent → ⊥
+
+-- what is said of a run that asked for a line on which these are all that it was given
+pub record IsUnreadRun (p : StoredProgram) (rules : Rules) (lines : List (List ℕ)) (a : Answers)
+    (old new : ScreenState) : Type 0 where
+  pub same_borrow : new.borrow ≡ old.borrow
+  pub shows : ShowsUnread rules.choose (plain p lines rules) a old.shown new.shown
+  pub unfailed : new.failures ≡ old.failures
+
+-- a source of lines gave some, and these come after them; it says what holds after its refusals, and whether the
+-- chooser noted that it was refused memory
+module _ (p : StoredProgram) (rules : Rules) (a : Answers) (refuses : Pause → ℤ → Type 0) (noticed : Bool)
+    (c d : Choices) (old new : ScreenState) (could can : ℕ) (given following : List (List ℕ)) (unread : DeviceFault
+    → Type 0) (left : Option (List (List ℕ)))
+    (led : (taken : Answers) (bounds : List ℤ) → AsksFor (play p (given ++ following) rules) taken bounds
+    → d ≡ with_answers taken bounds c → IsLed refuses taken a) where
+  abbrev refused : Refusal → Type 0
+  refused = refused_by (noted noticed refuses) unread left
+
+  abbrev lines : List (List ℕ)
+  lines = given ++ following
+
+  abbrev before : Devices
+  before = devices c old could rules.choose []
+
+  abbrev later : Devices
+  later = devices d new can rules.choose given
+
+  -- what is left of the answers after those that were taken, however often the writer has failed
+  left_by : (failures : ℕ) (x : Exchange) (left : Answers → Outcome Finish (List ℕ))
+      → Plays p rules lines before (with_failures failures later) x left → IsLed refuses x.answers a
+  left_by failures x left h = led x.answers x.bounds h.leaves.asked h.exchanges.grown
+
+  is_ok : {x : Exchange} {left : Answers → Outcome Finish (List ℕ)} (e : Ending)
+      → Plays p rules lines before later x left → ShowsRun (plain p lines rules a) old.shown new.shown e
+      → IsPlainRun p rules lines a refuses old new (Ok e)
+  is_ok e plays h = record {
+    same_borrow = plays.exchanges.shows.same_borrow;
+    ok = h;
+    beginning = takes_all old.shown new.shown _ h.bytes;
+    failed = λ f. cc;
+    memory = λ f. cc;
+    unfailed = λ f. plays.exchanges.unfailed;
+    unspent = λ f. cc;
+  }
+
+  -- the play with all of the answers is what is left of it, with those that are left
+  play_is : (failures : ℕ) (x : Exchange) (left : Answers → Outcome Finish (List ℕ))
+      (h : Plays p rules lines before (with_failures failures later) x left)
+      → play p lines rules a ≡ left (left_by failures x left h).rest
+  play_is failures x left h =
+      let following = left_by failures x left h in
+      ap (play p lines rules) following.whole
+      ∙ ap (λ (f : Answers → Outcome Finish (List ℕ)). f following.rest) h.leaves.rest
+
+  shows_run : (x : Exchange) (left : Answers → Outcome Finish (List ℕ)) (e : Ending) (o : Outcome Finish (List ℕ))
+      (h : Plays p rules lines before later x left)
+      → left (left_by new.failures x left h).rest ≡ o → plain_of o ≡ (x.bytes, e)
+      → ShowsRun (plain p lines rules a) old.shown new.shown e
+  shows_run x left e o h is ends =
+      let all : plain p lines rules a ≡ (x.bytes, e) = ap plain_of (play_is new.failures x left h ∙ is) ∙ ends in
+      record {
+        ending = sym (ap (λ r. r.1) all);
+        bytes = subst (Appends old.shown new.shown) (sym (ap (λ r. r.0) all)) h.exchanges.shows.shown;
+      }
+
+  finished : (e : Ending) → IsFinished refused p rules lines before later e
+      → IsPlainRun p rules lines a refuses old new (Ok e)
+  finished e h = is_ok e h.plays (shows_run h.exchange _ e _ h.plays refl refl)
+
+  -- INPUT found no line left, so all of them were given
+  dry : (NoneLeft left → following ≡ []) → RunComes refused p rules following before later (Ok endings.NoInput)
+      → IsPlainRun p rules lines a refuses old new (Ok endings.NoInput)
+  dry none h =
+      let all : lines ≡ given = ap (λ r. given ++ r) (none h.0) ∙ append-nil given in
+      finished endings.NoInput
+      (subst (λ i. IsFinished refused p rules i before later endings.NoInput) (sym all) (h.1 (none h.0)))
+
+  -- with the answers that were taken the play asks, and its bytes up to that question were shown
+  shows_question : (failures : ℕ) (bound : ℤ) (x : Exchange) (left : Answers → Outcome Finish (List ℕ))
+      → Plays p rules lines before (with_failures failures later) x left
+      → left [] ≡ Asks bound x.bytes → ShowsRun (plain p lines rules x.answers) old.shown new.shown endings.NoAnswer
+  shows_question failures bound x left h asks =
+      let all : plain p lines rules x.answers ≡ (x.bytes, endings.NoAnswer) =
+      ap (λ q. plain p lines rules q) (sym (append-nil x.answers))
+      ∙ ap plain_of (ap (λ (f : Answers → Outcome Finish (List ℕ)). f []) h.leaves.rest ∙ asks) in
+      record {
+        ending = sym (ap (λ r. r.1) all);
+        bytes = subst (Appends old.shown new.shown) (sym (ap (λ r. r.0) all)) h.exchanges.shows.shown;
+      }
+
+  -- what was shown before the rest of a play is a beginning
+  part_shown : (failures : ℕ) (x : Exchange) (left : Answers → Outcome Finish (List ℕ))
+      → Plays p rules lines before (with_failures failures later) x left
+      → ((rest : Answers) → Begins x.bytes (played_bytes (left rest)))
+      → TakesSome old.shown new.shown (plain p lines rules a).0
+  part_shown failures x left h continues =
+      let begins = continues (left_by failures x left h).rest in
+      let all : (plain p lines rules a).0 ≡ played_bytes (left (left_by failures x left h).rest) =
+      plain_bytes (play p lines rules a) ∙ ap played_bytes (play_is failures x left h) in
+      takes_beginning old.shown new.shown x.bytes _ h.exchanges.shows.shown (begins.0, all ∙ begins.1)
+
+  -- no answer is left, or it was refused memory
+  unanswered : IsUnanswered refused p rules lines before later pauses.Ended
+      → IsPlainRun p rules lines a refuses old new (noted_result noticed (Ok endings.NoAnswer))
+  unanswered h = by_refusal noticed h.refuses where
+    by_refusal : (refused : Bool) → ended_for refused (refuses pauses.Memory h.bound) (refuses pauses.Ended h.bound)
+        → IsPlainRun p rules lines a refuses old new (noted_result refused (Ok endings.NoAnswer))
+    by_refusal false r =
+        let none = (left_by new.failures h.exchange h.left h.plays).ended h.bound r in
+        is_ok endings.NoAnswer h.plays
+        (shows_run h.exchange h.left endings.NoAnswer _ h.plays (ap h.left none ∙ h.question.asks) refl)
+    by_refusal true r =
+        let following = left_by new.failures h.exchange h.left h.plays in
+        record {
+          same_borrow = h.plays.exchanges.shows.same_borrow;
+          ok = tt;
+          beginning = part_shown new.failures h.exchange h.left h.plays h.continues.begins;
+          failed = λ f. cc;
+          memory = λ _. inr (
+            (h.bound, r),
+            record {
+              drawn = h.exchange.answers;
+              rest = following.rest;
+              all_are = following.whole;
+              shows = shows_question new.failures h.bound h.exchange h.left h.plays h.question.asks;
+            },
+          );
+          unfailed = λ _. h.plays.exchanges.unfailed;
+          unspent = λ f. cc;
+        }
+
+  out_of_range : (k : ℤ) → IsUnanswered refused p rules lines before later (pauses.OutOfRange k)
+      → IsPlainRun p rules lines a refuses old new (Ok endings.BadAnswer)
+  out_of_range k h =
+      let next = (left_by new.failures h.exchange h.left h.plays).outside k h.bound h.refuses in
+      is_ok endings.BadAnswer h.plays
+      (shows_run h.exchange h.left endings.BadAnswer _ h.plays (ap h.left next.1 ∙ h.question.outside next.0) refl)
+
+  -- where a device fails, what was shown is a beginning
+  begun : {e : Breakage} → IsUnfinished refused p rules lines before later e
+      → TakesSome old.shown new.shown (plain p lines rules a).0
+  begun h = part_shown old.failures h.exchange h.left h.plays h.continues.begins
+
+  unwritten : RunComes refused p rules following before later (Err runs.Write)
+      → IsPlainRun p rules lines a refuses old new (Err runs.Write)
+  unwritten h = record {
+    same_borrow = h.plays.exchanges.shows.same_borrow;
+    ok = tt;
+    beginning = begun h;
+    failed = λ _. h.broken.0;
+    memory = λ f. cc;
+    unfailed = λ f. absurd (f refl);
+    unspent = λ f. cc;
+  }
+
+  not_read : RunComes refused p rules following before later (Err runs.Read)
+      → IsPlainRun p rules lines a refuses old new (Err runs.Read)
+  not_read h = record {
+    same_borrow = h.plays.exchanges.shows.same_borrow;
+    ok = tt;
+    beginning = begun h;
+    failed = λ f. cc;
+    memory = λ f. cc;
+    unfailed = λ f. h.broken.1;
+    unspent = λ f. cc;
+  }
+
+  -- a source without memory and a screen over a writer take none, and the chooser notes its refusals: it was refused
+  -- to the machine itself
+  out_of_memory : old.takes_memory ≡ false → (unread reads.Memory → ⊥)
+      → RunComes refused p rules following before later (Err runs.Memory) → later ≡ before
+  out_of_memory e no_memory h =
+      elim h [
+        | inl same ↦ same
+        | inr u ↦ elim (u.broken.0.by) [
+          | inl t ↦ absurd (let both : true ≡ false = sym t ∙ e in cc)
+          | inr r ↦ elim r [ inl q ↦ absurd q.1 | inr q ↦ absurd (no_memory q) ]
+        ]
+      ]
+
+  no_room : later ≡ before → IsPlainRun p rules lines a refuses old new (Err runs.Memory)
+  no_room e =
+      let nothing : Appends old.shown new.shown [] = subst (λ held. Appends old.shown held [])
+      (sym (ap (λ (d : Devices). d.screen.shown) e)) (Appends-nil old.shown) in
+      record {
+        same_borrow = ap (λ (d : Devices). d.screen.borrow) e;
+        ok = tt;
+        beginning = (0, omega arith, nothing);
+        failed = λ f. cc;
+        memory = λ _. inl nothing;
+        unfailed = λ _. ap (λ (d : Devices). d.screen.failures) e;
+        unspent = λ f. cc;
+      }
+
+  -- the play with all of the answers stops where the run did
+  pub stops_at : (line : Option ℕ) → StopsAt p rules lines before later line → line ≡ stopping_line p lines rules a
+  stops_at line h =
+      let following = left_by new.failures h.exchange h.left h.plays in
+      h.stops following.rest ∙ ap (stopping_line p lines rules) (sym following.whole)
+
+  -- ---- the lines that it takes
+
+  -- the given lines are no more than it takes, with all of the answers
+  fits : (x : Exchange) (rest : Answers) (more : List (List ℕ)) → a ≡ x.answers ++ rest
+      → lines ≡ given ++ (more ++ unasked_lines p lines rules (x.answers ++ rest))
+      → length given ≤ lines_taken p lines rules a
+  fits x rest more e k =
+      let unasked : unasked_lines p lines rules a ≡ unasked_lines p lines rules (x.answers ++ rest) =
+      ap (unasked_lines p lines rules) e in
+      omega (
+        arith,
+        ap length k,
+        ap length unasked,
+        length-append given (more ++ unasked_lines p lines rules
+            (x.answers ++ rest)),
+        length-append more (unasked_lines p lines rules (x.answers ++ rest)),
+      )
+
+  fits_finished : (e : Ending) → IsFinished refused p rules lines before later e
+      → length given ≤ lines_taken p lines rules a
+  fits_finished e h = let following = left_by new.failures h.exchange _ h.plays in
+      fits h.exchange following.rest [] following.whole (h.lines following.rest)
+
+  fits_unanswered : (z : Pause) → IsUnanswered refused p rules lines before later z
+      → length given ≤ lines_taken p lines rules a
+  fits_unanswered z h =
+      let following = left_by new.failures h.exchange h.left h.plays in
+      let taken = h.continues.more_lines following.rest in
+      fits h.exchange following.rest taken.0 following.whole taken.1
+
+  fits_unfinished : (e : Breakage) → IsUnfinished refused p rules lines before later e
+      → length given ≤ lines_taken p lines rules a
+  fits_unfinished e h =
+      let following = left_by old.failures h.exchange h.left h.plays in
+      let taken = h.continues.more_lines following.rest in
+      fits h.exchange following.rest taken.0 following.whole taken.1
+
+  fits_none : later ≡ before → length given ≤ lines_taken p lines rules a
+  fits_none e = omega (arith, ap (λ (d : Devices). length d.given) e)
+
+  fits_dry : (NoneLeft left → following ≡ []) → RunComes refused p rules following before later (Ok endings.NoInput)
+      → length given ≤ lines_taken p lines rules a
+  fits_dry none h =
+      let all : lines ≡ given = ap (λ r. given ++ r) (none h.0) ∙ append-nil given in
+      fits_finished endings.NoInput
+      (subst (λ i. IsFinished refused p rules i before later endings.NoInput) (sym all) (h.1 (none h.0)))
+
+  pub takes_given : old.takes_memory ≡ false → (unread reads.Memory → ⊥) → (NoneLeft left → following ≡ [])
+      → (result : Result Ending RunFault)
+      → RunComes refused p rules following before later result → length given ≤ lines_taken p lines rules a
+  takes_given e no_memory none (Ok endings.End) h = fits_finished endings.End h
+  takes_given e no_memory none (Ok endings.Stop) h = fits_finished endings.Stop h
+  takes_given e no_memory none (Ok endings.What) h = fits_finished endings.What h
+  takes_given e no_memory none (Ok endings.How) h = fits_finished endings.How h
+  takes_given e no_memory none (Ok endings.Sorry) h = fits_finished endings.Sorry h
+  takes_given e no_memory none (Ok endings.Limit) h = fits_finished endings.Limit h
+  takes_given e no_memory none (Ok endings.NoInput) h = fits_dry none h
+  takes_given e no_memory none (Ok endings.NoAnswer) h = fits_unanswered pauses.Ended h
+  takes_given e no_memory none (Ok endings.BadAnswer) h = fits_unanswered (pauses.OutOfRange h.0) h.1
+  takes_given e no_memory none (Err runs.Memory) h = fits_none (out_of_memory e no_memory h)
+  takes_given e no_memory none (Err runs.Read) h = fits_unfinished errors.Read h
+  takes_given e no_memory none (Err runs.Write) h = fits_unfinished errors.Write h
+  takes_given e no_memory none (Err runs.Spent) h = absurd h
+
+  -- where it asked for a line that it wasn't given, and these are all lines, it ends for lack of it, or would ask for
+  -- an answer
+  unread_shows : {e : Ending} → IsPlainRun p rules lines a refuses old new (Ok e)
+      → ShowsUnread rules.choose (plain p lines rules) a old.shown new.shown → IsUnreadRun p rules lines a old new
+  unread_shows run shows = record { same_borrow = run.same_borrow; shows = shows; unfailed = run.unfailed (λ f. cc) }
+
+  -- an ending for lack of a line
+  lacks_line : (choose : Option ℤ) → rules.choose ≡ choose
+      → IsFinished refused p rules lines before later endings.NoInput
+      → IsPlainRun p rules lines a refuses old new (Ok endings.NoInput)
+      → ShowsUnread choose (plain p lines rules) a old.shown new.shown
+  lacks_line None is h run = run.ok
+  lacks_line (Some n) is h run =
+      let none : rules.choose ≡ None = subst (λ (o : Outcome Finish (List ℕ)). HasRunEnding rules.choose o)
+      (ap (λ (f : Answers → Outcome Finish (List ℕ)). f []) h.plays.leaves.rest)
+      (play_ends p lines rules (h.exchange.answers ++ [])) in
+      absurd (let clash : Some n ≡ None = sym is ∙ none in cc)
+
+  dry_ending : IsFinished refused p rules lines before later endings.NoInput → IsUnreadRun p rules lines a old new
+  dry_ending h = let run = finished endings.NoInput h in unread_shows run (lacks_line rules.choose refl h run)
+
+  -- a line that can't be read
+  asks_instead : (n : ℤ) (h : IsUnfinished refused p rules lines before later errors.Read)
+      → h.left [] ≡ Asks n h.exchange.bytes
+      → ShowsUnread (Some n) (plain p lines rules) a old.shown new.shown
+  asks_instead n h asks = (begun h, (h.exchange.answers, shows_question old.failures n h.exchange h.left h.plays asks))
+
+  unread_line : (choose : Option ℤ) → rules.choose ≡ choose
+      → (h : IsUnfinished refused p rules lines before later errors.Read)
+      → LacksInput refused p rules lines before later choose h.exchange.bytes h.left
+      → IsUnreadRun p rules lines a old new
+  unread_line None is h lacks = dry_ending lacks
+  unread_line (Some n) is h lacks = record {
+    same_borrow = h.plays.exchanges.shows.same_borrow;
+    shows = subst (λ b. ShowsUnread b (plain p lines rules) a old.shown new.shown) (sym is) (asks_instead n h lacks);
+    unfailed = h.broken.1;
+  }
+
+  pub ends_dry : (P : Type 0) → (P → ⊥) → (unread reads.Memory → ⊥) → following ≡ [] → (result : Result Ending RunFault)
+      → UnlessMissed unread P (run_miss result)
+      → RunComes refused p rules following before later result → IsUnreadRun p rules lines a old new
+  ends_dry P never no_memory none (Ok endings.End) m h = absurd (never m)
+  ends_dry P never no_memory none (Ok endings.Stop) m h = absurd (never m)
+  ends_dry P never no_memory none (Ok endings.What) m h = absurd (never m)
+  ends_dry P never no_memory none (Ok endings.How) m h = absurd (never m)
+  ends_dry P never no_memory none (Ok endings.Sorry) m h = absurd (never m)
+  ends_dry P never no_memory none (Ok endings.Limit) m h = absurd (never m)
+  ends_dry P never no_memory none (Ok endings.NoInput) m h =
+      let all : lines ≡ given = ap (λ r. given ++ r) none ∙ append-nil given in
+      dry_ending (subst (λ i. IsFinished refused p rules i before later endings.NoInput) (sym all) (h.1 none))
+  ends_dry P never no_memory none (Ok endings.NoAnswer) m h = absurd (never m)
+  ends_dry P never no_memory none (Ok endings.BadAnswer) m h = absurd (never m)
+  ends_dry P never no_memory none (Err runs.Memory) m h =
+      elim m [ inl q ↦ absurd (never q) | inr r ↦ absurd (no_memory r) ]
+  ends_dry P never no_memory none (Err runs.Read) m h =
+      unread_line rules.choose refl h (h.dry refl (ap (λ r. given ++ r) none ∙ append-nil given))
+  ends_dry P never no_memory none (Err runs.Write) m h = absurd (never m)
+  ends_dry P never no_memory none (Err runs.Spent) m h = absurd h
+
+  pub run_comes : old.takes_memory ≡ false → (unread reads.Memory → ⊥) → (NoneLeft left → following ≡ [])
+      → (result : Result Ending RunFault)
+      → RunComes refused p rules following before later result
+      → IsPlainRun p rules lines a refuses old new (noted_result noticed result)
+  run_comes e no_memory none (Ok endings.End) h = finished endings.End h
+  run_comes e no_memory none (Ok endings.Stop) h = finished endings.Stop h
+  run_comes e no_memory none (Ok endings.What) h = finished endings.What h
+  run_comes e no_memory none (Ok endings.How) h = finished endings.How h
+  run_comes e no_memory none (Ok endings.Sorry) h = finished endings.Sorry h
+  run_comes e no_memory none (Ok endings.Limit) h = finished endings.Limit h
+  run_comes e no_memory none (Ok endings.NoInput) h = dry none h
+  run_comes e no_memory none (Ok endings.NoAnswer) h = unanswered h
+  run_comes e no_memory none (Ok endings.BadAnswer) h = out_of_range h.0 h.1
+  run_comes e no_memory none (Err runs.Memory) h = no_room (out_of_memory e no_memory h)
+  run_comes e no_memory none (Err runs.Read) h = not_read h
+  run_comes e no_memory none (Err runs.Write) h = unwritten h
+  run_comes e no_memory none (Err runs.Spent) h = absurd h
+
+-- where the chooser goes by these answers on whatever lines
+module _ (p : StoredProgram) (rules : Rules) (answers : List (List ℕ) → Answers) (refuses : Pause → ℤ → Type 0)
+    (noticed : Bool) (c d : Choices) (old new : ScreenState) (could can : ℕ) (given : List (List ℕ))
+    (unread : DeviceFault → Type 0) (left : Option (List (List ℕ)))
+    (result : Result Ending RunFault) (goes : GoesBy refuses c d answers p rules)
+    (h : Runs (refused_by (noted noticed refuses) unread left) p rules (devices c old could rules.choose [])
+    (devices d new can rules.choose given) result) (over : can ≡ 0 → NoneLeft left) where
+  pub led_run : old.takes_memory ≡ false → (unread reads.Memory → ⊥) → (following : List (List ℕ))
+      → (NoneLeft left → following ≡ [])
+      → IsPlainRun p rules (given ++ following) (answers (given ++ following)) refuses old new
+      (noted_result noticed result)
+  led_run no_room no_memory following none =
+      run_comes p rules (answers (given ++ following)) refuses noticed c d old new could can given following unread left
+      (goes (given ++ following)) no_room no_memory none result (h following (λ e. none (over e)))
+
+  pub led_run_takes : old.takes_memory ≡ false → (unread reads.Memory → ⊥) → (following : List (List ℕ))
+      → (NoneLeft left → following ≡ [])
+      → length given ≤ lines_taken p (given ++ following) rules (answers (given ++ following))
+  led_run_takes no_room no_memory following none =
+      takes_given p rules (answers (given ++ following)) refuses noticed c d old new could can given following unread
+      left
+      (goes (given ++ following)) no_room no_memory none result (h following (λ e. none (over e)))
+
+  pub led_run_dry : (unread reads.Memory → ⊥) → (P : Type 0) → (P → ⊥) → UnlessMissed unread P (run_miss result)
+      → IsUnreadRun p rules (given ++ []) (answers (given ++ [])) old new
+  led_run_dry no_memory P never missed =
+      ends_dry p rules (answers (given ++ [])) refuses noticed c d old new could can given [] unread left
+      (goes (given ++ [])) P never no_memory refl result missed (h [] (λ _. refl))
+
+-- the line of its end is that of the play
+module _ (p : StoredProgram) (rules : Rules) (answers : List (List ℕ) → Answers) (refuses : Pause → ℤ → Type 0)
+    (noticed : Bool) (c d : Choices) (old new : ScreenState) (could can : ℕ) (given : List (List ℕ))
+    (unread : DeviceFault → Type 0) (left : Option (List (List ℕ)))
+    (goes : GoesBy refuses c d answers p rules) (over : can ≡ 0 → NoneLeft left)
+    (end : RunEnd) (h : IsLineOf p rules (devices c old could rules.choose [])
+    (devices d new can rules.choose given) end) where
+  pub led_line : end.ending ≡ endings.Limit → (following : List (List ℕ)) → (NoneLeft left → following ≡ [])
+      → end.line ≡ stopping_line p (given ++ following) rules (answers (given ++ following))
+  led_line is following none =
+      stops_at p rules (answers (given ++ following)) refuses noticed c d old new could can given following unread left
+      (goes (given ++ following)) end.line (h.at_limit is following (λ e. none (over e)))
+
+-- ---- the screen of a writer
+
+-- a screen over a writer, by what its contract says of the writer
+abbrev pub state_of : {W : Type 0} → (W → Option (List ℕ)) → (W → ℕ) → MutBor W → ScreenState
+state_of contents failures screen =
+    record {
+      shown = contents screen.now;
+      failures = failures screen.now;
+      borrow = Some screen.ghost_name;
+      takes_memory = false;
+    }
+
+-- what is said of a plain run, between two states of its writer
+pub record IsRunBetween {W : Type 0} (contents : W → Option (List ℕ)) (failures : W
+    → ℕ) (p : StoredProgram) (rules : Rules) (ls : List (List ℕ)) (a : Answers) (refuses : Pause → ℤ
+    → Type 0) (w v : W) (result : Result Ending RunFault) : Type 0 where
+  pub ok : IfOk result (ShowsRun (plain p ls rules a) (contents w) (contents v))
+  pub beginning : TakesSome (contents w) (contents v) (plain p ls rules a).0
+  pub failed : IsErrOf result runs.Write → HasFailed (failures w) (failures v)
+  pub memory : IsErrOf result runs.Memory
+      → Appends (contents w) (contents v) []
+      ⊎ (((n : ℤ) × refuses pauses.Memory n) × ShowsQuestion (plain p ls rules) a (contents w) (contents v))
+  pub unfailed : (IsErrOf result runs.Write → ⊥) → failures v ≡ failures w
+  pub unspent : IsErrOf result runs.Spent → ⊥
+
+-- a writer ends as it is under the name of its borrow
+pub run_between : {W : Type 0} (contents : W → Option (List ℕ)) (failures : W → ℕ) (p : StoredProgram) (rules : Rules)
+    (ls : List (List ℕ)) (a : Answers) (refuses : Pause → ℤ → Type 0)
+    (screen screen_after : MutBor W) (w v : W) (result : Result Ending RunFault)
+    → screen.now ≡ w → (screen.ghost_name ≡ screen_after.ghost_name → v ≡ screen_after.now)
+    → IsPlainRun p rules ls a refuses (state_of contents failures screen) (state_of contents failures screen_after)
+    result
+    → IsRunBetween contents failures p rules ls a refuses w v result
+run_between contents failures p rules ls a refuses screen screen_after w v result begins ends h =
+    let same : screen.ghost_name ≡ screen_after.ghost_name = let e = h.same_borrow in cc in
+    subst (λ x. IsRunBetween contents failures p rules ls a refuses x v result) begins
+    (subst (λ x. IsRunBetween contents failures p rules ls a refuses screen.now x result) (sym (ends same))
+    (record {
+      ok = h.ok;
+      beginning = h.beginning;
+      failed = h.failed;
+      memory = h.memory;
+      unfailed = h.unfailed;
+      unspent = h.unspent;
+    }))
+
+-- what is said of a run that couldn't read a line, between two states of its writer
+pub record IsUnreadBetween {W : Type 0} (contents : W → Option (List ℕ)) (failures : W
+    → ℕ) (p : StoredProgram) (rules : Rules) (ls : List (List ℕ)) (a : Answers) (w v : W) : Type 0 where
+  pub shows : ShowsUnread rules.choose (plain p ls rules) a (contents w) (contents v)
+  pub unfailed : failures v ≡ failures w
+
+pub unread_between : {W : Type 0} (contents : W → Option (List ℕ)) (failures : W → ℕ) (p : StoredProgram)
+    (rules : Rules) (ls : List (List ℕ)) (a : Answers)
+    (screen screen_after : MutBor W) (w v : W)
+    → screen.now ≡ w → (screen.ghost_name ≡ screen_after.ghost_name → v ≡ screen_after.now)
+    → IsUnreadRun p rules ls a (state_of contents failures screen) (state_of contents failures screen_after)
+    → IsUnreadBetween contents failures p rules ls a w v
+unread_between contents failures p rules ls a screen screen_after w v begins ends h =
+    let same : screen.ghost_name ≡ screen_after.ghost_name = let e = h.same_borrow in cc in
+    subst (λ x. IsUnreadBetween contents failures p rules ls a x v) begins
+    (subst (λ x. IsUnreadBetween contents failures p rules ls a screen.now x) (sym (ends same))
+    (record { shows = h.shows; unfailed = h.unfailed }))
