@@ -10,9 +10,9 @@ use Rattle.ptb_command.specs.declared.stop.Stop.TheVariants as stops
 use Rattle.ptb_command.specs.Actions.{Faults, Halt, Action, and_then, goes_on, halt, show, attempt}
 use Rattle.ptb_command.specs.Actions.{or_halt, work_action}
 use Rattle.ptb_command.specs.Devices.{Refusal, nothing_refused}
-use Rattle.ptb_command.specs.Traces.{Trace, with_due, still_due, RefinesPart}
+use Rattle.ptb_command.specs.Traces.{Trace, with_pending, still_pending, RefinesPart}
 use Rattle.ptb_command.specs.Stops.{Stops, RefinesPartTo}
-use Rattle.ptb_command.proofs.PendingBytes.{stops_due}
+use Rattle.ptb_command.proofs.PendingBytes.{stops_pending}
 use Rattle.ptb_command.proofs.Effects.{then_keeps, takes_itself}
 use Rattle.ptb_command.proofs.PartRefinement.{refines_part_refl, refines_part_under}
 use Rattle.ptb_command.proofs.Stops.{GoesForward, forward_itself, forward_joined, Adds}
@@ -57,10 +57,11 @@ stops_unrefused refused o n f e h = stops_more nothing_refused refused (λ r x. 
 -- a fault
 pub stops_fault : {A : Type 0} (refused : Refusal → Type 0) (o n : Trace) (f : Action A) (e : Stop) (x : Fault)
     → e ≡ stops.Fault x → RefinesPart o n f (halt (Faults x))
-    → Stops refused (RefinesPartTo o (with_due (still_due n.due e) n) f) n.devices e
+    → Stops refused (RefinesPartTo o (with_pending (still_pending n.pending e) n) f) n.devices e
 stops_fault refused o n f e x k m =
-    subst (λ (y : Stop). Stops refused (RefinesPartTo o (with_due (still_due n.due y) n) f) n.devices y) (sym k)
-    (stops_due refused o n f (stops.Fault x) refl m)
+    subst (λ (y : Stop). Stops refused (RefinesPartTo o (with_pending (still_pending n.pending y) n) f) n.devices y)
+    (sym k)
+    (stops_pending refused o n f (stops.Fault x) refl m)
 
 -- ---- what is known already
 

@@ -11,7 +11,7 @@ use Rattle.ptb_command.specs.State.{State}
 use Rattle.ptb_command.specs.Actions.{Action, and_then, goes_on}
 use Rattle.ptb_command.specs.Act.{value_action, target_action, store, parts_action}
 use Rattle.ptb_command.specs.Devices.{Devices, no_exchange, Refusal}
-use Rattle.ptb_command.specs.Traces.{Trace, trace, with_due, state_after, once_shown, RefinesPart}
+use Rattle.ptb_command.specs.Traces.{Trace, trace, with_pending, state_after, once_shown, RefinesPart}
 use Rattle.ptb_command.specs.Stops.{Stops, RefinesPartTo}
 use Rattle.ptb_command.proofs.Effects.{begins_itself, takes_itself}
 use Rattle.ptb_command.proofs.Exchanges.{exchanges_none}
@@ -21,10 +21,11 @@ use Rattle.ptb_command.proofs.Stops.{Adds, parts_add, stops_after}
 use Rattle.ptb_command.proofs.Actions.{then_adds, work_action_adds, refines_part_on, stops_first}
 
 -- a value is stored
-pub store_refines_part : (d : Devices) (fresh : Bool) (due : List ℕ) (c e : Cells) (at : Target) (v : ℤ)
+pub store_refines_part : (d : Devices) (fresh : Bool) (pending : List ℕ) (c e : Cells) (at : Target) (v : ℤ)
     → e ≡ with_target c at v
-    → RefinesPart (with_due due (trace d fresh c)) (with_due due (trace d fresh e)) (store at v) (goes_on tt)
-store_refines_part d fresh due c e at v k = record {
+    → RefinesPart (with_pending pending (trace d fresh c)) (with_pending pending (trace d fresh e)) (store at v)
+    (goes_on tt)
+store_refines_part d fresh pending c e at v k = record {
   exchange = no_exchange;
   exchanges = exchanges_none d;
   fresh = freshens_nothing fresh;
@@ -32,9 +33,9 @@ store_refines_part d fresh due c e at v k = record {
       let stored : record S { cells = with_target S.cells at v } ≡ state_after (trace d fresh e) [] rest S =
       ap (λ (x : Cells). record S { cells = with_target x at v }) f.cells
       ∙ ap (λ (x : Cells). record S { cells = x }) (sym k)
-      ∙ ap (λ (T : State). record T { cells = e }) (after_nothing (with_due due (trace d fresh c)) rest S f) in
-      leaves_to (goes_on tt (once_shown due (state_after (trace d fresh e) [] rest S)))
-      (ap (λ T. goes_on tt (once_shown due T)) stored) (leaves_itself (store at v (once_shown due S)));
+      ∙ ap (λ (T : State). record T { cells = e }) (after_nothing (with_pending pending (trace d fresh c)) rest S f) in
+      leaves_to (goes_on tt (once_shown pending (state_after (trace d fresh e) [] rest S)))
+      (ap (λ T. goes_on tt (once_shown pending T)) stored) (leaves_itself (store at v (once_shown pending S)));
 }
 
 pub store_adds : (at : Target) (v : ℤ) → Adds (store at v)

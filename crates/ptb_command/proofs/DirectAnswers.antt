@@ -6,7 +6,7 @@ use Rattle.ptb_expr.specs.declared.store.Target.TheVariants as targets
 use Rattle.ptb_expr.specs.Tree.{Tree, Var}
 use Rattle.ptb_command.specs.Act.{ask_for}
 use Rattle.ptb_command.specs.Actions.{goes_on}
-use Rattle.ptb_command.specs.Traces.{Trace, with_due, RefinesPart}
+use Rattle.ptb_command.specs.Traces.{Trace, with_pending, RefinesPart}
 use Rattle.ptb_command.proofs.Evaluations.{target_letter}
 use Rattle.ptb_command.proofs.GatheredBytes.{gathered}
 use Rattle.ptb_command.proofs.InputItems.{ask_known_refines_part}
@@ -21,9 +21,9 @@ module _ (said : List ℕ) (x : Tree) (prompt : List ℕ) where
   -- a letter is named, nothing is said before, and the prompt is gathered
   pub letter_asked : (name : List ℕ) (o : Trace) (old new : List ℕ) (letter : ℕ) → prompt ≡ name ++ 58 ∷ [] → said ≡ []
       → x ≡ Var letter → new ≡ old ++ (name ++ 58 ∷ [])
-      → RefinesPart (with_due old o) (with_due new o) (ask_for said x prompt) (goes_on (targets.Var letter))
+      → RefinesPart (with_pending old o) (with_pending new o) (ask_for said x prompt) (goes_on (targets.Var letter))
   letter_asked name o old new letter is silent e shown =
       ask_known_refines_part said x prompt name is (targets.Var letter)
       (gathered o old old said (sym (ap (λ (s : List ℕ). old ++ s) silent ∙ append-nil old)))
-      (target_letter (with_due old o) x letter e)
+      (target_letter (with_pending old o) x letter e)
       (gathered o old new (name ++ 58 ∷ []) shown)

@@ -1,7 +1,7 @@
 -- This file proves the results of gathering bytes and of showing them together.
 -- Main lemma: `finished`.
-use Rattle.std.proofs.Common.{◌≡◌, Bool, true, false, List, [], ◌++◌, ℕ, Result, Ok, Err, sym, ap}
-use Rattle.std.proofs.Common.{subst, ◌∙◌, append_assoc}
+use Rattle.std.proofs.Common.{◌≡◌, Bool, true, false, List, [], ◌++◌, ℕ, Result, Ok, Err, sym, ap, subst, ◌∙◌}
+use Rattle.std.proofs.Common.{append_assoc}
 use Rattle.ptb_expr.specs.Store.{Cells}
 use Rattle.ptb_command.specs.declared.ending.Ending.TheVariants as endings
 use Rattle.ptb_command.specs.declared.stop.Stop.{Stop}
@@ -9,14 +9,14 @@ use Rattle.ptb_command.specs.declared.stop.Stop.TheVariants as stops
 use Rattle.ptb_command.specs.State.{State}
 use Rattle.ptb_command.specs.Actions.{Faults, Ends, Action, goes_on, halt, show}
 use Rattle.ptb_command.specs.Devices.{Devices, Refusal, no_exchange, nothing_refused}
-use Rattle.ptb_command.specs.Traces.{Trace, trace, with_due, still_due, following, once_shown, state_after, Leaves}
-use Rattle.ptb_command.specs.Traces.{RefinesPart}
+use Rattle.ptb_command.specs.Traces.{Trace, trace, with_pending, still_pending, following, once_shown, state_after}
+use Rattle.ptb_command.specs.Traces.{Leaves, RefinesPart}
 use Rattle.ptb_command.specs.Stops.{Stops, RefinesPartTo, Comes, still_shows}
 use Rattle.ptb_command.proofs.Actions.{show_adds, halt_adds, refines_part_on, stops_first, stops_unrefused}
-use Rattle.ptb_command.proofs.PendingBytes.{after_is, due_stays, due_goes}
+use Rattle.ptb_command.proofs.PendingBytes.{after_is, pending_stays, pending_goes}
 use Rattle.ptb_command.proofs.Exchanges.{exchanges_none}
-use Rattle.ptb_command.proofs.PartRefinement.{leaves_to, leaves_itself, after_nothing}
-use Rattle.ptb_command.proofs.PartRefinement.{freshens_nothing, refines_part_then}
+use Rattle.ptb_command.proofs.PartRefinement.{leaves_to, leaves_itself, after_nothing, freshens_nothing}
+use Rattle.ptb_command.proofs.PartRefinement.{refines_part_then}
 use Rattle.ptb_command.proofs.Stops.{Adds, stops_along, stops_after, comes_after}
 
 -- nothing is done
@@ -25,75 +25,77 @@ idle = goes_on tt
 
 -- ---- more is gathered
 
-after_more : (shown due bytes : List ℕ) → following shown due ++ bytes ≡ following shown (due ++ bytes)
-after_more shown due bytes = ap (λ s. s ++ bytes) (after_is shown due) ∙ append_assoc shown due bytes
-    ∙ sym (after_is shown (due ++ bytes))
+after_more : (shown pending bytes : List ℕ) → following shown pending ++ bytes ≡ following shown (pending ++ bytes)
+after_more shown pending bytes = ap (λ s. s ++ bytes) (after_is shown pending) ∙ append_assoc shown pending bytes
+    ∙ sym (after_is shown (pending ++ bytes))
 
-gathered_more : (o : Trace) (due bytes : List ℕ)
-    → RefinesPart (with_due due o) (with_due (due ++ bytes) o) (show bytes) idle
-gathered_more o due bytes = record {
+gathered_more : (o : Trace) (pending bytes : List ℕ)
+    → RefinesPart (with_pending pending o) (with_pending (pending ++ bytes) o) (show bytes) idle
+gathered_more o pending bytes = record {
   exchange = no_exchange;
   exchanges = exchanges_none o.devices;
   fresh = freshens_nothing o.fresh;
   leaves = λ S rest _ w.
-      leaves_to (idle (once_shown (due ++ bytes) (state_after o [] rest S)))
-      (ap (λ (s : List ℕ). idle (record S { shown = s })) (after_more S.shown due bytes)
-      ∙ ap (λ (T : State). idle (once_shown (due ++ bytes) T)) (after_nothing (with_due due o) rest S w))
-      (leaves_itself (show bytes (once_shown due S)));
+      leaves_to (idle (once_shown (pending ++ bytes) (state_after o [] rest S)))
+      (ap (λ (s : List ℕ). idle (record S { shown = s })) (after_more S.shown pending bytes)
+      ∙ ap (λ (T : State). idle (once_shown (pending ++ bytes) T)) (after_nothing (with_pending pending o) rest S w))
+      (leaves_itself (show bytes (once_shown pending S)));
 }
 
 pub gathered : (o : Trace) (old new bytes : List ℕ) → new ≡ old ++ bytes
-    → RefinesPart (with_due old o) (with_due new o) (show bytes) idle
-gathered o old new bytes e = subst (λ (due : List ℕ). RefinesPart (with_due old o) (with_due due o) (show bytes) idle)
+    → RefinesPart (with_pending old o) (with_pending new o) (show bytes) idle
+gathered o old new bytes e = subst (λ (pending : List ℕ). RefinesPart (with_pending old o) (with_pending pending o)
+    (show bytes) idle)
     (sym e) (gathered_more o old bytes)
 
 -- ---- what was gathered is shown
 
-module _ (d : Devices) (fresh : Bool) (cells : Cells) (due : List ℕ) where
-  due_shown : {n : Trace} {g : Action (Unit {0})} → RefinesPart (trace d fresh cells) n (show due) g
-      → RefinesPart (with_due due (trace d fresh cells)) n idle g
-  due_shown {n = n} {g = g} m = record {
+module _ (d : Devices) (fresh : Bool) (cells : Cells) (pending : List ℕ) where
+  pending_shown : {n : Trace} {g : Action (Unit {0})} → RefinesPart (trace d fresh cells) n (show pending) g
+      → RefinesPart (with_pending pending (trace d fresh cells)) n idle g
+  pending_shown {n = n} {g = g} m = record {
     exchange = m.exchange;
     exchanges = m.exchanges;
     fresh = m.fresh;
     leaves = λ S rest f w.
         subst (λ (s : List ℕ). Leaves (idle (record S { shown = s })) m.exchange.answers m.exchange.bounds
-        (g (once_shown n.due (state_after n m.exchange.bytes rest S))))
-        (sym (after_is S.shown due))
+        (g (once_shown n.pending (state_after n m.exchange.bytes rest S))))
+        (sym (after_is S.shown pending))
         (m.leaves S rest f (record { fresh = w.fresh; cells = w.cells; lines = w.lines; choose = w.choose }));
   }
 
   pub flush_comes : (n : Trace) (r : Result (Unit {0}) Stop)
-      → Comes nothing_refused (trace d fresh cells) n (show due) goes_on r
-      → Comes nothing_refused (with_due due (trace d fresh cells)) n idle goes_on r
-  flush_comes n (Ok x) h = due_shown h
+      → Comes nothing_refused (trace d fresh cells) n (show pending) goes_on r
+      → Comes nothing_refused (with_pending pending (trace d fresh cells)) n idle goes_on r
+  flush_comes n (Ok x) h = pending_shown h
   flush_comes n (Err e) h =
-      let k = with_due (still_due n.due e) n in
-      stops_along nothing_refused nothing_refused (λ r x. x) (RefinesPartTo (trace d fresh cells) k (show due))
-      (RefinesPartTo (with_due due (trace d fresh cells)) k idle) (λ j g m. due_shown m) k.devices e h
+      let k = with_pending (still_pending n.pending e) n in
+      stops_along nothing_refused nothing_refused (λ r x. x) (RefinesPartTo (trace d fresh cells) k (show pending))
+      (RefinesPartTo (with_pending pending (trace d fresh cells)) k idle) (λ j g m. pending_shown m) k.devices e h
 
 -- ---- before bytes for which there was no room
 
 -- nothing is gathered then
-module _ (o : Trace) (d : Devices) (fresh : Bool) (cells : Cells) (due bytes : List ℕ) (none : due ≡ []) where
+module _ (o : Trace) (d : Devices) (fresh : Bool) (cells : Cells) (pending bytes : List ℕ) (none : pending ≡ []) where
   pub unflushed : (e : Stop) → Stops nothing_refused (RefinesPartTo o (trace d fresh cells) idle) d e
-      → Stops nothing_refused (RefinesPartTo o (with_due (still_due due e) (trace d fresh cells)) (show bytes)) d e
+      → Stops nothing_refused (RefinesPartTo o (with_pending (still_pending pending e) (trace d fresh cells))
+      (show bytes)) d e
   unflushed e h =
       subst (λ (x : List ℕ). Stops nothing_refused
-      (RefinesPartTo o (with_due (still_due x e) (trace d fresh cells)) (show bytes)) d e) (sym none)
+      (RefinesPartTo o (with_pending (still_pending x e) (trace d fresh cells)) (show bytes)) d e) (sym none)
       (stops_first nothing_refused o (trace d fresh cells) idle (λ u. show bytes) (λ u. show_adds bytes) e h)
 
-  pub flushed_gathered : (new : List ℕ) → new ≡ due ++ bytes → RefinesPart o (trace d fresh cells) idle idle
-      → RefinesPart o (with_due new (trace d fresh cells)) (show bytes) idle
+  pub flushed_gathered : (new : List ℕ) → new ≡ pending ++ bytes → RefinesPart o (trace d fresh cells) idle idle
+      → RefinesPart o (with_pending new (trace d fresh cells)) (show bytes) idle
   flushed_gathered new e a = refines_part_then (refines_part_on (λ u. show bytes) a)
       (gathered (trace d fresh cells) [] new bytes (e ∙ ap (λ (x : List ℕ). x ++ bytes) none))
 
-  pub flushed_shown : (new : List ℕ) → new ≡ due → (l : Devices) (now : Bool) (r : Result (Unit {0}) Stop)
+  pub flushed_shown : (new : List ℕ) → new ≡ pending → (l : Devices) (now : Bool) (r : Result (Unit {0}) Stop)
       → RefinesPart o (trace d fresh cells) idle idle
       → Comes nothing_refused (trace d fresh cells) (trace l now cells) (show bytes) goes_on r
-      → Comes nothing_refused o (with_due new (trace l now cells)) (show bytes) goes_on r
+      → Comes nothing_refused o (with_pending new (trace l now cells)) (show bytes) goes_on r
   flushed_shown new e l now r a h =
-      subst (λ (x : List ℕ). Comes nothing_refused o (with_due x (trace l now cells)) (show bytes) goes_on r)
+      subst (λ (x : List ℕ). Comes nothing_refused o (with_pending x (trace l now cells)) (show bytes) goes_on r)
       (sym (e ∙ none))
       (comes_after nothing_refused (trace l now cells) goes_on (refines_part_on (λ u. show bytes) a) r h)
 
@@ -101,19 +103,19 @@ module _ (o : Trace) (d : Devices) (fresh : Bool) (cells : Cells) (due bytes : L
 
 -- where nothing more is shown
 pub unfinished : {A X : Type 0} (refused : Refusal → Type 0) (o : Trace) (d : Devices) (fresh : Bool) (cells : Cells)
-    (due : List ℕ) (f : Action A) (ok : X → Action A) (r : Result X Stop)
-    → still_shows r ≡ false → Comes refused o (with_due due (trace d fresh cells)) f ok r
+    (pending : List ℕ) (f : Action A) (ok : X → Action A) (r : Result X Stop)
+    → still_shows r ≡ false → Comes refused o (with_pending pending (trace d fresh cells)) f ok r
     → Comes refused o (trace d fresh cells) f ok r
-unfinished refused o d fresh cells due f ok (Ok x) k h = cc
-unfinished refused o d fresh cells due f ok (Err e) k h =
-    subst (λ (x : List ℕ). Stops refused (RefinesPartTo o (with_due x (trace d fresh cells)) f) d e)
-    (due_goes due e k) h
+unfinished refused o d fresh cells pending f ok (Ok x) k h = cc
+unfinished refused o d fresh cells pending f ok (Err e) k h =
+    subst (λ (x : List ℕ). Stops refused (RefinesPartTo o (with_pending x (trace d fresh cells)) f) d e)
+    (pending_goes pending e k) h
 
 module _ {A X : Type 0} (refused : Refusal → Type 0) (o m : Trace) (f : Action A) (ok : X → Action A) where
   stop_there : (e : Stop) → still_shows {X = X} (Err e) ≡ true → Comes refused o m f ok (Err e)
       → Stops refused (RefinesPartTo o m f) m.devices e
-  stop_there e k h = subst (λ (x : List ℕ). Stops refused (RefinesPartTo o (with_due x m) f) m.devices e)
-      (due_stays m.due e k) h
+  stop_there e k h = subst (λ (x : List ℕ). Stops refused (RefinesPartTo o (with_pending x m) f) m.devices e)
+      (pending_stays m.pending e k) h
 
   -- what was gathered is shown
   pub finished : (d : Devices) (fresh : Bool) (cells : Cells) → RefinesPart m (trace d fresh cells) idle idle

@@ -41,7 +41,7 @@ use Rattle.ptb_devices.specs.Sources.{given_lines}
 use Rattle.ptb_command.specs.Devices.{Devices, Exchanges, no_exchange, with_choices, Refusal}
 use Rattle.ptb_command.specs.Devices.{Unread, NoLine, refused_answers}
 use Rattle.ptb_command.specs.Devices.{HasBroken}
-use Rattle.ptb_command.specs.Traces.{Trace, trace, with_due, still_due, state_after, once_shown, RefinesPart}
+use Rattle.ptb_command.specs.Traces.{Trace, trace, with_pending, still_pending, state_after, once_shown, RefinesPart}
 use Rattle.ptb_command.specs.Stops.{stop_of, stop_of_device, LacksLine, WantsLine, DeviceFails, Stops}
 use Rattle.ptb_command.specs.Stops.{RefinesPartTo, Comes}
 use Rattle.ptb_command.proofs.Effects.{takes_joined, ask_lines, input_part, input_takes}
@@ -61,34 +61,36 @@ use Rattle.ptb_command.proofs.WorkedParts.{has_result, has_paused, has_value, ha
 abbrev pub line_value : List ℕ → Action (Result ℤ Fault)
 line_value l = attempt (λ c. value c (item_of (expression l 0)))
 
-module _ (refused : Pause → ℤ → Type 0) (l : List ℕ) (c e : Choices) (d : Devices) (fresh : Bool) (due : List ℕ)
+module _ (refused : Pause → ℤ → Type 0) (l : List ℕ) (c e : Choices) (d : Devices) (fresh : Bool) (pending : List ℕ)
     (cells : Cells) where
   pub line_values : (v u : ℤ) → u ≡ v → WorkComes refused (value cells (item_of (expression l 0))) c e (Ok v)
-      → RefinesPart (with_due due (trace (with_choices c d) fresh cells))
-      (with_due due (trace (with_choices e d) fresh cells)) (line_value l) (goes_on (Ok u))
+      → RefinesPart (with_pending pending (trace (with_choices c d) fresh cells))
+      (with_pending pending (trace (with_choices e d) fresh cells)) (line_value l) (goes_on (Ok u))
   line_values v u k h =
-      subst (λ (z : ℤ). RefinesPart (with_due due (trace (with_choices c d) fresh cells))
-      (with_due due (trace (with_choices e d) fresh cells)) (line_value l) (goes_on (Ok z))) (sym k)
-      (has_result (λ c. value c (item_of (expression l 0))) c e d fresh due cells (Ok v) h)
+      subst (λ (z : ℤ). RefinesPart (with_pending pending (trace (with_choices c d) fresh cells))
+      (with_pending pending (trace (with_choices e d) fresh cells)) (line_value l) (goes_on (Ok z))) (sym k)
+      (has_result (λ c. value c (item_of (expression l 0))) c e d fresh pending cells (Ok v) h)
 
   pub line_faults : (s : NoValue) (f : Fault) → s ≡ values.Fault f
       → WorkComes refused (value cells (item_of (expression l 0))) c e (Err s)
-      → RefinesPart (with_due due (trace (with_choices c d) fresh cells))
-      (with_due due (trace (with_choices e d) fresh cells)) (line_value l) (goes_on (Err f))
+      → RefinesPart (with_pending pending (trace (with_choices c d) fresh cells))
+      (with_pending pending (trace (with_choices e d) fresh cells)) (line_value l) (goes_on (Err f))
   line_faults s f k h =
-      has_result (λ c. value c (item_of (expression l 0))) c e d fresh due cells (Err f)
+      has_result (λ c. value c (item_of (expression l 0))) c e d fresh pending cells (Err f)
       (subst (λ (x : NoValue). WorkComes refused (value cells (item_of (expression l 0))) c e (Err x)) k h)
 
   pub line_pauses : (s : NoValue) (z : Pause) → s ≡ values.Pause z
       → WorkComes refused (value cells (item_of (expression l 0))) c e (Err s) → (k : Stop)
       → k ≡ stop_of (values.Pause z)
-      → Stops (refused_answers refused) (RefinesPartTo (with_due due (trace (with_choices c d) fresh cells))
-      (with_due (still_due due k) (trace (with_choices e d) fresh cells)) (line_value l)) (with_choices e d) k
+      → Stops (refused_answers refused) (RefinesPartTo (with_pending pending (trace (with_choices c d) fresh cells))
+      (with_pending (still_pending pending k) (trace (with_choices e d) fresh cells)) (line_value l))
+      (with_choices e d) k
   line_pauses s z p h k q =
       subst (λ (x : Stop). Stops (refused_answers refused)
-      (RefinesPartTo (with_due due (trace (with_choices c d) fresh cells)) (with_due (still_due due x)
+      (RefinesPartTo (with_pending pending (trace (with_choices c d) fresh cells))
+      (with_pending (still_pending pending x)
       (trace (with_choices e d) fresh cells)) (line_value l)) (with_choices e d) x) (sym q)
-      (has_paused (λ c. value c (item_of (expression l 0))) c e d fresh due cells refused z
+      (has_paused (λ c. value c (item_of (expression l 0))) c e d fresh pending cells refused z
       (subst (λ (x : NoValue). WorkComes refused (value cells (item_of (expression l 0))) c e (Err x)) p h))
 
 line_adds : (l : List ℕ) → Adds (line_value l)
@@ -130,8 +132,9 @@ fewer_left m most fewer f = record {
   exchanges = exchanges_most m.devices most fewer;
   fresh = freshens_nothing m.fresh;
   leaves =
-      λ S rest _ w. leaves_to (f (once_shown m.due (state_after m [] rest S))) (ap f (once_nothing m m.due rest S w))
-      (leaves_itself (f (once_shown m.due S)));
+      λ S rest _ w. leaves_to (f (once_shown m.pending (state_after m [] rest S)))
+      (ap f (once_nothing m m.pending rest S w))
+      (leaves_itself (f (once_shown m.pending S)));
 }
 
 -- ---- an answer instead of a line
@@ -207,23 +210,23 @@ module _ (n : ℤ) (at : Target) where
       (refines_part_then (refines_part_on (λ u. store at v) (both_move (signed_decimal v) newline b c)) d)
 
 -- the result of the chooser, as the value
-module _ (refused : Pause → ℤ → Type 0) (n : ℤ) (c e : Choices) (d : Devices) (fresh : Bool) (due : List ℕ)
+module _ (refused : Pause → ℤ → Type 0) (n : ℤ) (c e : Choices) (d : Devices) (fresh : Bool) (pending : List ℕ)
     (cells : Cells) (high : pos 1 ≤ℤ n) where
   pub chosen_value : (at : Target) (v : ℤ) → WorkComes refused (chosen n) c e (Ok v)
-      → RefinesPart (with_due due (trace (with_choices c d) fresh cells))
-      (with_due due (trace (with_choices e d) fresh cells)) (instead_value n at) (goes_on v)
+      → RefinesPart (with_pending pending (trace (with_choices c d) fresh cells))
+      (with_pending pending (trace (with_choices e d) fresh cells)) (instead_value n at) (goes_on v)
   unfolding instead_value
   chosen_value at v h =
-      has_value (λ c. random_number n 0) c e d fresh due cells v v refl
+      has_value (λ c. random_number n 0) c e d fresh pending cells v v refl
       (subst (λ (f : Work ℤ). WorkComes refused f c e (Ok v)) (random_chosen n 0 high) h)
 
   pub chosen_stops : (at : Target) (s : NoValue) → WorkComes refused (chosen n) c e (Err s)
-      → Stops (refused_answers refused) (RefinesPartTo (with_due due (trace (with_choices c d) fresh cells))
-      (with_due (still_due due (stop_of s)) (trace (with_choices e d) fresh cells)) (instead_value n at))
+      → Stops (refused_answers refused) (RefinesPartTo (with_pending pending (trace (with_choices c d) fresh cells))
+      (with_pending (still_pending pending (stop_of s)) (trace (with_choices e d) fresh cells)) (instead_value n at))
       (with_choices e d) (stop_of s)
   unfolding instead_value
   chosen_stops at s h =
-      has_no_value (λ c. random_number n 0) c e d fresh due cells refused s
+      has_no_value (λ c. random_number n 0) c e d fresh pending cells refused s
       (subst (λ (f : Work ℤ). WorkComes refused f c e (Err s)) (random_chosen n 0 high) h)
 
 -- ---- before a line is taken
@@ -427,11 +430,11 @@ module _ (said : List ℕ) (x : Tree) (prompt : List ℕ) where
     fresh = freshens_nothing m.fresh;
     leaves = λ S rest f w.
         let lines : S.lines ≡ [] = w.lines ∙ f none in
-        leaves_to (without_line m.devices.choose at (once_shown m.due (state_after m [] rest S)))
-        (ap (λ ls. answer_by at ls (once_shown m.due S)) lines
-        ∙ ap (λ c. without_line c at (once_shown m.due S)) w.choose
-        ∙ ap (without_line m.devices.choose at) (once_nothing m m.due rest S w))
-        (leaves_itself (wants at (once_shown m.due S)));
+        leaves_to (without_line m.devices.choose at (once_shown m.pending (state_after m [] rest S)))
+        (ap (λ ls. answer_by at ls (once_shown m.pending S)) lines
+        ∙ ap (λ c. without_line c at (once_shown m.pending S)) w.choose
+        ∙ ap (without_line m.devices.choose at) (once_nothing m m.pending rest S w))
+        (leaves_itself (wants at (once_shown m.pending S)));
   }
 
   pub take_none : {o m : Trace} (most : ℕ) (at : Target) → most ≡ 0
@@ -524,10 +527,10 @@ module _ (said : List ℕ) (x : Tree) (prompt : List ℕ) where
         let taken : record S { lines = rest } ≡ state_after m [] rest S =
         after_nothing m rest (record S { lines = rest })
         (record { fresh = w.fresh; cells = w.cells; lines = refl; choose = w.choose }) in
-        leaves_to (line_next at l (once_shown m.due (state_after m [] rest S)))
-        (ap (λ ls. answer_by at ls (once_shown m.due S)) w.lines ∙ given_same at l rest (once_shown m.due S)
-        ∙ ap (λ T. line_next at l (once_shown m.due T)) taken)
-        (leaves_itself (wants at (once_shown m.due S)));
+        leaves_to (line_next at l (once_shown m.pending (state_after m [] rest S)))
+        (ap (λ ls. answer_by at ls (once_shown m.pending S)) w.lines ∙ given_same at l rest (once_shown m.pending S)
+        ∙ ap (λ T. line_next at l (once_shown m.pending T)) taken)
+        (leaves_itself (wants at (once_shown m.pending S)));
   }
 
   take_given : {o m : Trace} (most : ℕ) (at : Target) (l : List ℕ) (k : List (List ℕ)) → most + 1 ≤ m.devices.most
@@ -630,7 +633,7 @@ module _ (rest : List Part) (w : ℕ) (operands : List ℤ) where
   take_comes refused o n said x prompt p k (Ok y) h =
       refines_part_part rest w operands p (Take said x prompt) k (take_refines_part said x prompt h)
   take_comes refused o n said x prompt p k (Err e) h =
-      let m = with_due (still_due n.due e) n in
+      let m = with_pending (still_pending n.pending e) n in
       stops_part rest w operands refused o m p (Take said x prompt) k e (take_stops refused o m said x prompt e h)
 
 -- ---- the lines that a source gives

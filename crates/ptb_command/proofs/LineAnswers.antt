@@ -17,7 +17,7 @@ use Rattle.ptb_command.specs.Actions.{Action, goes_on}
 use Rattle.ptb_command.specs.Act.{item_action}
 use Rattle.ptb_command.specs.Devices.{Devices, nothing_refused, refused_answers, refused_by}
 use Rattle.ptb_command.specs.Stops.{stop_of_device, Stops, RefinesPartTo, Comes}
-use Rattle.ptb_command.specs.Traces.{Trace, trace, with_due, still_due, RefinesPart}
+use Rattle.ptb_command.specs.Traces.{Trace, trace, with_pending, still_pending, RefinesPart}
 use Rattle.ptb_command.proofs.Actions.{refines_part_on, stops_unrefused}
 use Rattle.ptb_command.proofs.PendingBytes.{stops_none}
 use Rattle.ptb_command.proofs.Dispatch.{answers_refused}
@@ -30,14 +30,14 @@ use Rattle.ptb_command.proofs.Stops.{comes_err, comes_after, comes_more, stops_a
 
 -- The source has no line at hand, and can give so many; what is gathered is shown then.
 pub waiting : {A : Type 0} {o m : Trace} (f : Action A) (v : A) (most : ℕ) (d : Devices) (fresh : Bool) (cells : Cells)
-    (due : List ℕ)
+    (pending : List ℕ)
     → RefinesPart o m f (goes_on v) → most ≤ m.devices.most
-    → RefinesPart (with_most most m) (trace d fresh cells) (goes_on (tt {0})) (goes_on (tt {0})) → due ≡ []
-    → RefinesPart o (with_due due (trace d fresh cells)) f (goes_on v)
-waiting {o = o} {m = m} f v most d fresh cells due a fewer b empty =
+    → RefinesPart (with_most most m) (trace d fresh cells) (goes_on (tt {0})) (goes_on (tt {0})) → pending ≡ []
+    → RefinesPart o (with_pending pending (trace d fresh cells)) f (goes_on v)
+waiting {o = o} {m = m} f v most d fresh cells pending a fewer b empty =
     let shown : RefinesPart (with_most most m) (trace d fresh cells) (goes_on v) (goes_on v) =
     refines_part_on (λ u. goes_on v) b in
-    subst (λ (k : List ℕ). RefinesPart o (with_due k (trace d fresh cells)) f (goes_on v)) (sym empty)
+    subst (λ (k : List ℕ). RefinesPart o (with_pending k (trace d fresh cells)) f (goes_on v)) (sym empty)
     (refines_part_then (refines_part_then a (fewer_left m most fewer (goes_on v))) shown)
 
 -- The lines that were given so far had no value in front, and the item is to be done.
@@ -47,11 +47,12 @@ module _ (said : List ℕ) (x : Tree) (prompt : List ℕ) {i o : Trace}
   pub answering_stops : {X : Type 0} (answers : Pause → ℤ → Type 0) (unread : DeviceFault → Type 0)
       (lines : Option (List (List ℕ))) (n : Trace) (ok : X → Action (Unit {0})) (r : Result X Stop) (e : Stop)
       → IsErrAnd r (λ y. y ≡ e)
-      → Stops (refused_answers answers) (RefinesPartTo o (with_due (still_due n.due e) n) (ask_for said x prompt))
+      → Stops (refused_answers answers) (RefinesPartTo o (with_pending (still_pending n.pending e) n)
+      (ask_for said x prompt))
       n.devices e
       → Comes (refused_by answers unread lines) i n (item_action said x prompt) ok r
   answering_stops answers unread lines n ok r e is h =
-      let end = with_due (still_due n.due e) n in
+      let end = with_pending (still_pending n.pending e) n in
       comes_err (refused_by answers unread lines) i n (item_action said x prompt) ok r e is
       (stops_after (refused_by answers unread lines) end was e
       (take_ask_stops said x prompt (refused_by answers unread lines) o end e
@@ -63,10 +64,11 @@ module _ (said : List ℕ) (x : Tree) (prompt : List ℕ) {i o : Trace}
       (lines : Option (List (List ℕ))) {m : Trace} (n : Trace) (at : Target) (ok : X → Action (Unit {0}))
       (r : Result X Stop) (e : Stop)
       → IsErrAnd r (λ y. y ≡ e) → RefinesPart o m (ask_for said x prompt) (goes_on at)
-      → Stops nothing_refused (RefinesPartTo m (with_due (still_due n.due e) n) (goes_on (tt {0}))) n.devices e
+      → Stops nothing_refused (RefinesPartTo m (with_pending (still_pending n.pending e) n) (goes_on (tt {0})))
+      n.devices e
       → Comes (refused_by answers unread lines) i n (item_action said x prompt) ok r
   answering_unshown answers unread lines {m = m} n at ok r e is comes h =
-      let end = with_due (still_due n.due e) n in
+      let end = with_pending (still_pending n.pending e) n in
       comes_err (refused_by answers unread lines) i n (item_action said x prompt) ok r e is
       (stops_after (refused_by answers unread lines) end was e
       (flush_stops said x prompt (refused_by answers unread lines) end at e comes
@@ -77,7 +79,7 @@ module _ (said : List ℕ) (x : Tree) (prompt : List ℕ) {i o : Trace}
     -- the source fails
     pub answering_unread : {X : Type 0} (answers : Pause → ℤ → Type 0) (unread : DeviceFault → Type 0)
         (lines : Option (List (List ℕ))) (ok : X → Action (Unit {0})) (r : Result X Stop) (f : DeviceFault)
-        → IsErrAnd r (λ y. y ≡ stop_of_device f) → m.due ≡ [] → most ≤ m.devices.most
+        → IsErrAnd r (λ y. y ≡ stop_of_device f) → m.pending ≡ [] → most ≤ m.devices.most
         → (line : Result (Option (Bor (List ℕ))) DeviceFault) → line ≡ Err f → IfErr line IsSourceFault
         → IfErr line unread
         → Comes (refused_by answers unread lines) i (with_most most m) (item_action said x prompt) ok r
@@ -97,8 +99,9 @@ module _ (said : List ℕ) (x : Tree) (prompt : List ℕ) {i o : Trace}
       -- the run ends for lack of a line
       pub answering_ends : (answers : Pause → ℤ → Type 0) (unread : DeviceFault → Type 0)
           (lines : Option (List (List ℕ)))
-          → m.due ≡ [] → m.devices.choose ≡ None → IfOk line (λ l. IfNone l (NoneLeft lines))
-          → Stops (refused_by answers unread lines) (RefinesPartTo i (with_due (still_due m.due stops.NoInput)
+          → m.pending ≡ [] → m.devices.choose ≡ None → IfOk line (λ l. IfNone l (NoneLeft lines))
+          → Stops (refused_by answers unread lines) (RefinesPartTo i
+          (with_pending (still_pending m.pending stops.NoInput)
           (with_most most m)) (item_action said x prompt)) (with_most most m).devices stops.NoInput
       answering_ends answers unread lines empty choose h =
           stops_none (refused_by answers unread lines) i (with_most most m)
@@ -138,10 +141,11 @@ module _ (said : List ℕ) (x : Tree) (prompt : List ℕ) {i o : Trace}
           (lines : Option (List (List ℕ))) (n : Trace) (ok : X → Action (Unit {0})) (r : Result X Stop) (e : Stop)
           → IsErrAnd r (λ y. y ≡ e)
           → Stops (refused_answers answers)
-          (RefinesPartTo (with_given given (with_most most m)) (with_due (still_due n.due e) n) left) n.devices e
+          (RefinesPartTo (with_given given (with_most most m)) (with_pending (still_pending n.pending e) n) left)
+          n.devices e
           → Comes (refused_by answers unread lines) i n (item_action said x prompt) ok r
       answering_fails answers unread lines n ok r e is h =
-          let end = with_due (still_due n.due e) n in
+          let end = with_pending (still_pending n.pending e) n in
           comes_err (refused_by answers unread lines) i n (item_action said x prompt) ok r e is
           (stops_after (refused_by answers unread lines) end asked_line e
           (stops_more (refused_answers answers) (refused_by answers unread lines) (answers_refused answers unread lines)

@@ -88,9 +88,9 @@ after_nothing o rest S w =
     ∙ ap (λ (h : List ℕ). record S { cells = o.cells; lines = rest; shown = h }) (sym (append-nil S.shown))
 
 -- the same once what is due is shown
-pub once_nothing : (o : Trace) (due : List ℕ) (rest : List (List ℕ)) (S : State) → Fits o rest S
-    → once_shown due S ≡ once_shown due (state_after o [] rest S)
-once_nothing o due rest S w = ap (once_shown due) (after_nothing o rest S w)
+pub once_nothing : (o : Trace) (pending : List ℕ) (rest : List (List ℕ)) (S : State) → Fits o rest S
+    → once_shown pending S ≡ once_shown pending (state_after o [] rest S)
+once_nothing o pending rest S w = ap (once_shown pending) (after_nothing o rest S w)
 
 after_twice : (m n : Trace) (a b : List ℕ) (ls rest : List (List ℕ)) (S : State)
     → state_after n b rest (state_after m a ls S) ≡ state_after n (a ++ b) rest S
@@ -113,8 +113,8 @@ refines_part_same o f g e = record {
   exchanges = exchanges_none o.devices;
   fresh = freshens_nothing o.fresh;
   leaves = λ S rest _ w.
-      leaves_to (g (once_shown o.due (state_after o [] rest S))) (e (once_shown o.due S) w.cells
-      ∙ ap g (once_nothing o o.due rest S w)) (leaves_itself (f (once_shown o.due S)));
+      leaves_to (g (once_shown o.pending (state_after o [] rest S))) (e (once_shown o.pending S) w.cells
+      ∙ ap g (once_nothing o o.pending rest S w)) (leaves_itself (f (once_shown o.pending S)));
 }
 
 pub refines_part_refl : {A : Type 0} (o : Trace) (f : State → Answers → Outcome A State) → RefinesPart o o f f
@@ -129,8 +129,8 @@ refines_part_then {o = o} {m = m} {n = n} {f = f} {g = g} {h = h} a b = record {
   leaves = λ S rest f w.
       let lines = b.exchange.given ++ rest in
       let fits = fits_assoc o a.exchange.given b.exchange.given rest S w in
-      leaves_to (h (once_shown n.due (state_after n (a.exchange.bytes ++ b.exchange.bytes) rest S)))
-      (ap (λ T. h (once_shown n.due T)) (after_twice m n a.exchange.bytes b.exchange.bytes lines rest S))
+      leaves_to (h (once_shown n.pending (state_after n (a.exchange.bytes ++ b.exchange.bytes) rest S)))
+      (ap (λ T. h (once_shown n.pending T)) (after_twice m n a.exchange.bytes b.exchange.bytes lines rest S))
       (leaves_then (a.leaves S lines (follows_before b.exchanges rest f) fits)
       (b.leaves (state_after m a.exchange.bytes lines S) rest f
       (fits_after o m a.exchange lines S a.fresh a.exchanges.same_choose fits)));

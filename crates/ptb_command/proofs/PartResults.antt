@@ -9,7 +9,7 @@ use Rattle.ptb_command.specs.Act.{value_action, padded_decimal, parts_action}
 use Rattle.ptb_command.specs.Commands.{Part, Say, Show}
 use Rattle.ptb_command.specs.Actions.{goes_on, show}
 use Rattle.ptb_command.specs.Devices.{Refusal, nothing_refused}
-use Rattle.ptb_command.specs.Traces.{Trace, with_due, still_due, RefinesPart}
+use Rattle.ptb_command.specs.Traces.{Trace, with_pending, still_pending, RefinesPart}
 use Rattle.ptb_command.specs.Stops.{Comes}
 use Rattle.ptb_command.proofs.Actions.{stops_unrefused}
 use Rattle.ptb_command.proofs.Parts.{say_refines_part, say_stops, show_refines_part, show_stops}
@@ -27,7 +27,7 @@ module _ (refused : Refusal → Type 0) (o n : Trace) (rest : List Part) (w : �
       → Comes refused o n (parts_action (p ∷ rest) w operands) (λ u. parts_action rest w operands) r
   say_comes s e (Ok x) h = refines_part_part rest w operands p _ e (say_refines_part rest w operands s h)
   say_comes s e (Err x) h =
-      let k = with_due (still_due n.due x) n in
+      let k = with_pending (still_pending n.pending x) n in
       stops_part rest w operands refused o k p _ e x
       (say_stops rest w operands refused o k s x (stops_unrefused refused o k _ x h))
 
@@ -37,6 +37,6 @@ module _ (refused : Refusal → Type 0) (o n : Trace) (rest : List Part) (w : �
   show_comes m x v u e k a (Ok y) h =
       refines_part_part rest w operands p _ e (show_refines_part rest w operands x v u k a h)
   show_comes m x v u e k a (Err y) h =
-      let l = with_due (still_due n.due y) n in
+      let l = with_pending (still_pending n.pending y) n in
       stops_part rest w operands refused o l p _ e y
       (show_stops rest w operands refused l x v u k y a (stops_unrefused refused m l _ y h))

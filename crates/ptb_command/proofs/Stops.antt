@@ -21,7 +21,7 @@ use Rattle.ptb_command.specs.Actions.{Ends, Progress, Goes, Halts, Action, on_pr
 use Rattle.ptb_command.specs.Act.{parts_action}
 use Rattle.ptb_command.specs.Effects.{action_state, Begins, TakesLines}
 use Rattle.ptb_command.specs.Devices.{Devices, with_screen, Refusal, Unanswered, NoLine}
-use Rattle.ptb_command.specs.Traces.{Trace, with_due, still_due, RefinesPart}
+use Rattle.ptb_command.specs.Traces.{Trace, with_pending, still_pending, RefinesPart}
 use Rattle.ptb_command.specs.Stops.{AsksNext, DeviceFails, Continues, LacksLine, WantsLine, Stops, RefinesPartTo, Comes}
 use Rattle.ptb_command.proofs.Effects.{Preserves, begins_itself, begins_joined, takes_itself}
 use Rattle.ptb_command.proofs.Effects.{takes_joined, attempt_state, parts_part, parts_take}
@@ -227,19 +227,20 @@ pub comes_after : {A X : Type 0} (refused : Refusal → Type 0) {o m : Trace} (n
     (ok : X → Action A)
     → RefinesPart o m f g → (r : Result X Stop) → Comes refused m n g ok r → Comes refused o n f ok r
 comes_after refused n ok a (Ok x) h = refines_part_then a h
-comes_after refused n ok a (Err e) h = stops_after refused (with_due (still_due n.due e) n) a e h
+comes_after refused n ok a (Err e) h = stops_after refused (with_pending (still_pending n.pending e) n) a e h
 
 pub comes_more : {A X : Type 0} (refused others : Refusal → Type 0) → ((r : Refusal) → refused r → others r)
     → (o n : Trace) (f : Action A) (ok : X → Action A) (r : Result X Stop) → Comes refused o n f ok r
     → Comes others o n f ok r
 comes_more refused others more o n f ok (Ok x) h = h
 comes_more refused others more o n f ok (Err e) h =
-    stops_more refused others more o (with_due (still_due n.due e) n) f e h
+    stops_more refused others more o (with_pending (still_pending n.pending e) n) f e h
 
 -- at the exit of a `?`
 pub comes_err : {A X : Type 0} (refused : Refusal → Type 0) (o n : Trace) (f : Action A) (ok : X → Action A)
     (r : Result X Stop) (e : Stop)
-    → IsErrAnd r (λ y. y ≡ e) → Stops refused (RefinesPartTo o (with_due (still_due n.due e) n) f) n.devices e
+    → IsErrAnd r (λ y. y ≡ e) → Stops refused (RefinesPartTo o (with_pending (still_pending n.pending e) n) f) n.devices
+    e
     → Comes refused o n f ok r
 comes_err {A = A} {X = X} refused o n f ok r e k s =
     let p = err_from_is_err_and r k in

@@ -21,11 +21,11 @@ use Rattle.ptb_command.specs.declared.execution.print.Output.{Output}
 use Rattle.ptb_command.specs.declared.stop.Stop.{Stop}
 use Rattle.ptb_command.specs.Act.{ask_for, first_width, item_action, parts_action}
 use Rattle.ptb_command.specs.Actions.{goes_on}
-use Rattle.ptb_command.specs.CommandIo.{due_trace}
+use Rattle.ptb_command.specs.CommandIo.{pending_trace}
 use Rattle.ptb_command.specs.Devices.{refused_answers, refused_by}
 use Rattle.ptb_command.specs.ScreenOperations.{ArePartsDone, IsOnlyItem, IsPartDone, IsPartTaken, ShowsOrTakes}
 use Rattle.ptb_command.specs.Stops.{Comes, NotMissed, miss_of}
-use Rattle.ptb_command.specs.Traces.{Trace, with_due, still_due, RefinesPart}
+use Rattle.ptb_command.specs.Traces.{Trace, with_pending, still_pending, RefinesPart}
 use Rattle.ptb_command.proofs.Borrows.{borrows_on}
 use Rattle.ptb_command.proofs.InputItems.{line_left, take_refines_part, take_stops, with_given, with_most}
 use Rattle.ptb_command.proofs.LineAnswers.{answering_again, answering_done, answering_fails}
@@ -59,7 +59,8 @@ module _ (rest : List Part) (w : ℕ) (operands : List ℤ) (x : Tree) (prompt :
     taken_comes (Ok false) h =
         taken_again (answering_again [] x prompt (refines_part_refl _ _) at asked most l given fewer is n false refl h)
     taken_comes (Err e) h =
-        take_stops rest w operands (refused_by answers unread lines) i (with_due (still_due n.due e) n) [] x prompt e
+        take_stops rest w operands (refused_by answers unread lines) i
+        (with_pending (still_pending n.pending e) n) [] x prompt e
         (answering_fails [] x prompt (refines_part_refl _ _) at asked most l given fewer is answers unread lines n
         (λ (stored : Bool). goes_on tt) (Err e) e refl h)
 
@@ -108,8 +109,8 @@ module _ {C S L : Type 0} (chooser : choosers.Ghosts C) (screen : screens.Ghosts
     gives = gives_more _ _ _ _ _ h.gives k.gives;
     comes = λ before part rest operands means.
         subst (λ (ks : List (List ℕ)). Comes (refused_by (chooser.refused m.chooser.now) (source.refused m.source.now)
-        (source.lines m.source.now)) (due_trace chooser.choices screen source.most o before c old.pending)
-        (due_trace chooser.choices screen source.most m ks f new.pending)
+        (source.lines m.source.now)) (pending_trace chooser.choices screen source.most o before c old.pending)
+        (pending_trace chooser.choices screen source.most m ks f new.pending)
         (parts_action (part ∷ rest) old.width operands)
         (λ u. parts_action rest new.width operands) r) (append_assoc before h.given k.given)
         (comes_after _ _ (λ (u : Unit {0}). parts_action rest new.width operands)
@@ -158,7 +159,7 @@ module _ {C S L : Type 0} (chooser : choosers.Ghosts C) (screen : screens.Ghosts
       → ArePartsDone chooser screen source code c e o n [] new.pending first_width (Ok item.next)
   item_taken r is empty width h =
       subst (λ (w : ℕ). ArePartsDone chooser screen source code c e o n [] new.pending w (Ok item.next)) width
-      (subst (λ (due : List ℕ). ArePartsDone chooser screen source code c e o n due new.pending old.width
+      (subst (λ (pending : List ℕ). ArePartsDone chooser screen source code c e o n pending new.pending old.width
       (Ok item.next)) empty
       (item_done (taken_done chooser screen source code (Input item.prompt item.destination) c e o n old new
       (subst (λ (q : Result Bool Stop). IsPartTaken chooser screen source code.text.now code.steps.now

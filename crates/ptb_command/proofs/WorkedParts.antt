@@ -19,24 +19,24 @@ use Rattle.ptb_command.specs.Actions.{Ends, Progress, Goes, Halts, goes_on, atte
 use Rattle.ptb_command.specs.Effects.{action_state}
 use Rattle.ptb_command.specs.Effects.{action_state}
 use Rattle.ptb_command.specs.Devices.{Devices, answers_alone, refused_answers, with_choices}
-use Rattle.ptb_command.specs.Traces.{trace, with_due, still_due, state_after, once_shown, Leaves, RefinesPart}
+use Rattle.ptb_command.specs.Traces.{trace, with_pending, still_pending, state_after, once_shown, Leaves, RefinesPart}
 use Rattle.ptb_command.specs.Stops.{stop_of, stop_of_pause, IsRefusal, AsksUnanswered, DeviceFails}
 use Rattle.ptb_command.specs.Stops.{Stops, RefinesPartTo}
 use Rattle.ptb_command.proofs.Effects.{attempt_state}
 use Rattle.ptb_command.proofs.Exchanges.{shows_nothing}
 use Rattle.ptb_command.proofs.PartRefinement.{leaves_under, leaves_to, once_nothing}
 use Rattle.ptb_command.proofs.PartRefinement.{freshens_nothing, refines_part_under}
-use Rattle.ptb_command.proofs.PendingBytes.{after_is, refines_part_dropped, stops_due, stops_dropped}
+use Rattle.ptb_command.proofs.PendingBytes.{after_is, refines_part_dropped, stops_pending, stops_dropped}
 use Rattle.ptb_command.specs.declared.stop.Stop.TheVariants as stops
 use Rattle.ptb_command.proofs.Stops.{asks_before, attempt_adds, or_halt_adds, stops_under}
 
 -- for devices that hold d except the choices, and a state that is fresh or not, with these bytes due and these cells
-module _ {A : Type 0} (f : Cells → Work A) (c e : Choices) (d : Devices) (fresh : Bool) (due : List ℕ)
+module _ {A : Type 0} (f : Cells → Work A) (c e : Choices) (d : Devices) (fresh : Bool) (pending : List ℕ)
     (cells : Cells) where
   -- what is left of the work is what is left to do
   attempted : (g : Work A) → Reaches (f cells) c e g
-      → RefinesPart (with_due due (trace (with_choices c d) fresh cells))
-      (with_due due (trace (with_choices e d) fresh cells)) (attempt f) (attempt (λ k. g))
+      → RefinesPart (with_pending pending (trace (with_choices c d) fresh cells))
+      (with_pending pending (trace (with_choices e d) fresh cells)) (attempt f) (attempt (λ k. g))
   attempted g p = record {
     exchange = answers_alone p.answers p.bounds;
     exchanges = record {
@@ -49,21 +49,23 @@ module _ {A : Type 0} (f : Cells → Work A) (c e : Choices) (d : Devices) (fres
     };
     fresh = freshens_nothing fresh;
     leaves = λ S rest _ w.
-        let n = with_due due (trace (with_choices e d) fresh cells) in
+        let n = with_pending pending (trace (with_choices e d) fresh cells) in
         let later : Answers → Outcome (Progress (Result A Fault)) State =
-        attempt (λ k. g) (once_shown due (state_after n [] rest S)) in
-        subst (λ k. Leaves (λ a. map_outcome (λ r. Goes r (once_shown due S)) (λ u. once_shown due S) (f k a)) p.answers
+        attempt (λ k. g) (once_shown pending (state_after n [] rest S)) in
+        subst (λ k. Leaves (λ a. map_outcome (λ r. Goes r (once_shown pending S)) (λ u. once_shown pending S) (f k a))
+        p.answers
         p.bounds later) (sym w.cells)
         (leaves_to later
-        (ap (λ (T : State). attempt (λ k. g) T) (once_nothing n due rest S
+        (ap (λ (T : State). attempt (λ k. g) T) (once_nothing n pending rest S
         (record { fresh = w.fresh; cells = w.cells; lines = w.lines; choose = w.choose })))
-        (leaves_under (λ o. map_outcome (λ r. Goes r (once_shown due S)) (λ u. once_shown due S) o)
-        (λ u. once_shown due S) (λ n v. refl) (record { asked = p.asked; rest = p.rest })));
+        (leaves_under (λ o. map_outcome (λ r. Goes r (once_shown pending S)) (λ u. once_shown pending S) o)
+        (λ u. once_shown pending S) (λ n v. refl) (record { asked = p.asked; rest = p.rest })));
   }
 
   waits : (refused : Pause → ℤ → Type 0) (z : Pause) → IsRefusal z → Pauses refused (f cells) c e z
-      → AsksUnanswered (refused_answers refused) (RefinesPartTo (with_due due (trace (with_choices c d) fresh cells))
-      (with_due due (trace (with_choices e d) fresh cells)) (attempt f)) (with_choices e d) action_state z
+      → AsksUnanswered (refused_answers refused) (RefinesPartTo
+      (with_pending pending (trace (with_choices c d) fresh cells))
+      (with_pending pending (trace (with_choices e d) fresh cells)) (attempt f)) (with_choices e d) action_state z
   waits refused z r p = record {
     left = attempt (λ k. p.left);
     bound = p.bound;
@@ -80,22 +82,23 @@ module _ {A : Type 0} (f : Cells → Work A) (c e : Choices) (d : Devices) (fres
 
   -- what was gathered isn't shown then
   breaks : (refused : Pause → ℤ → Type 0) → Pauses refused (f cells) c e pauses.Memory
-      → DeviceFails (refused_answers refused) (RefinesPartTo (with_due due (trace (with_choices c d) fresh cells))
+      → DeviceFails (refused_answers refused) (RefinesPartTo (with_pending pending
+      (trace (with_choices c d) fresh cells))
       (trace (with_choices e d) fresh cells) (attempt f)) (with_choices e d) action_state
       (Halts (Ends endings.NoInput)) errors.Memory
   breaks refused p = record {
-    left = λ S. attempt (λ k. p.left) (once_shown due S);
+    left = λ S. attempt (λ k. p.left) (once_shown pending S);
     screen = d.screen;
     bytes = [];
     comes = refines_part_dropped (attempted p.left p.reaches);
     shows = shows_nothing d.screen;
     continues = record {
       begins = λ S a. (
-        due,
-        ap (λ (T : State). T.shown) (attempt_state (λ k. p.left) (once_shown due S) a)
-            ∙ after_is S.shown due ∙ ap (λ s. s ++ due) (sym (append-nil S.shown)),
+        pending,
+        ap (λ (T : State). T.shown) (attempt_state (λ k. p.left) (once_shown pending S) a)
+            ∙ after_is S.shown pending ∙ ap (λ s. s ++ pending) (sym (append-nil S.shown)),
       );
-      takes = λ S a. ([], sym (ap (λ (T : State). T.lines) (attempt_state (λ k. p.left) (once_shown due S) a)));
+      takes = λ S a. ([], sym (ap (λ (T : State). T.lines) (attempt_state (λ k. p.left) (once_shown pending S) a)));
     };
     line = tt;
     broken = (record { by = inr (inl (p.bound, p.refuses)) }, refl);
@@ -103,37 +106,38 @@ module _ {A : Type 0} (f : Cells → Work A) (c e : Choices) (d : Devices) (fres
 
   -- a result, which may be a fault
   pub has_result : (r : Result A Fault) → Reaches (f cells) c e (λ a. Done r a)
-      → RefinesPart (with_due due (trace (with_choices c d) fresh cells))
-      (with_due due (trace (with_choices e d) fresh cells)) (attempt f) (goes_on r)
+      → RefinesPart (with_pending pending (trace (with_choices c d) fresh cells))
+      (with_pending pending (trace (with_choices e d) fresh cells)) (attempt f) (goes_on r)
   has_result r p = attempted (λ a. Done r a) p
 
   -- a pause
   pub has_paused : (refused : Pause → ℤ → Type 0) (z : Pause) → Pauses refused (f cells) c e z
-      → Stops (refused_answers refused) (RefinesPartTo (with_due due (trace (with_choices c d) fresh cells))
-      (with_due (still_due due (stop_of_pause z)) (trace (with_choices e d) fresh cells)) (attempt f))
+      → Stops (refused_answers refused) (RefinesPartTo (with_pending pending (trace (with_choices c d) fresh cells))
+      (with_pending (still_pending pending (stop_of_pause z)) (trace (with_choices e d) fresh cells)) (attempt f))
       (with_choices e d) (stop_of_pause z)
   has_paused refused pauses.Ended p =
-      stops_due _ _ _ _ (stops.Pause pauses.Ended) refl (waits refused pauses.Ended tt p)
+      stops_pending _ _ _ _ (stops.Pause pauses.Ended) refl (waits refused pauses.Ended tt p)
   has_paused refused (pauses.OutOfRange k) p =
-      stops_due _ _ _ _ (stops.Pause (pauses.OutOfRange k)) refl (waits refused (pauses.OutOfRange k) tt p)
+      stops_pending _ _ _ _ (stops.Pause (pauses.OutOfRange k)) refl (waits refused (pauses.OutOfRange k) tt p)
   has_paused refused pauses.Memory p = stops_dropped _ _ _ _ stops.Memory refl (breaks refused p)
 
   -- a value, which the code has as v
   pub has_value : (w v : A) → v ≡ w → Reaches (f cells) c e (success w)
-      → RefinesPart (with_due due (trace (with_choices c d) fresh cells))
-      (with_due due (trace (with_choices e d) fresh cells)) (work_action f) (goes_on v)
+      → RefinesPart (with_pending pending (trace (with_choices c d) fresh cells))
+      (with_pending pending (trace (with_choices e d) fresh cells)) (work_action f) (goes_on v)
   has_value w v h p =
-      subst (λ (x : A). RefinesPart (with_due due (trace (with_choices c d) fresh cells))
-      (with_due due (trace (with_choices e d) fresh cells)) (work_action f) (goes_on x)) (sym h)
+      subst (λ (x : A). RefinesPart (with_pending pending (trace (with_choices c d) fresh cells))
+      (with_pending pending (trace (with_choices e d) fresh cells)) (work_action f) (goes_on x)) (sym h)
       (refines_part_under or_halt (has_result (Ok w) p))
 
   -- no value
   pub has_no_value : (refused : Pause → ℤ → Type 0) (s : NoValue) → WorkComes refused (f cells) c e (Err s)
-      → Stops (refused_answers refused) (RefinesPartTo (with_due due (trace (with_choices c d) fresh cells))
-      (with_due (still_due due (stop_of s)) (trace (with_choices e d) fresh cells)) (work_action f))
+      → Stops (refused_answers refused) (RefinesPartTo (with_pending pending (trace (with_choices c d) fresh cells))
+      (with_pending (still_pending pending (stop_of s)) (trace (with_choices e d) fresh cells)) (work_action f))
       (with_choices e d) (stop_of s)
-  has_no_value refused (values.Fault x) p = stops_due (refused_answers refused)
-      (with_due due (trace (with_choices c d) fresh cells)) (with_due due (trace (with_choices e d) fresh cells))
+  has_no_value refused (values.Fault x) p = stops_pending (refused_answers refused)
+      (with_pending pending (trace (with_choices c d) fresh cells))
+      (with_pending pending (trace (with_choices e d) fresh cells))
       (work_action f) (stops.Fault x) refl (refines_part_under or_halt (has_result (Err x) p))
   has_no_value refused (values.Pause z) p = stops_under (refused_answers refused) _ _ (attempt f) or_halt or_halt_adds
       (stop_of_pause z) (has_paused refused z p)

@@ -1,7 +1,7 @@
 -- This file defines what the devices of a command hold.
 --     io_devices choices screen most io given         what they hold, besides the lines that the source gave
 --     io_trace choices screen most io given cells     the trace at which the devices are
---     due_trace choices screen most io given cells due     the same, with bytes that are gathered
+--     pending_trace choices screen most io given cells pending     the same, with bytes that are gathered
 --     SameBorrows old new                             the borrows are the same, and the rules
 --     SameDevices old new                             so is the source, which gave nothing
 use Rattle.std.specs.Prelude.{◌≡◌, ℕ, List}
@@ -10,7 +10,7 @@ use Rattle.ptb_expr.specs.Store.{Cells}
 use Rattle.ptb_command.specs.declared.command_io.CommandIo.{CommandIo}
 use Rattle.ptb_devices.specs.declared.screen.Screen.{Ghosts}
 use Rattle.ptb_command.specs.Devices.{Devices, devices, screen_state}
-use Rattle.ptb_command.specs.Traces.{Trace, trace, with_due}
+use Rattle.ptb_command.specs.Traces.{Trace, trace, with_pending}
 
 abbrev pub io_devices : {C S L : Type 0} → (C → Choices) → Ghosts S → (L → ℕ) → CommandIo C S L → List (List ℕ)
     → Devices
@@ -21,9 +21,11 @@ abbrev pub io_trace : {C S L : Type 0} → (C → Choices) → Ghosts S → (L �
     → Trace
 io_trace choices screen most io given cells = trace (io_devices choices screen most io given) io.fresh cells
 
-abbrev pub due_trace : {C S L : Type 0} → (C → Choices) → Ghosts S → (L → ℕ) → CommandIo C S L → List (List ℕ) → Cells
+abbrev pub pending_trace : {C S L : Type 0} → (C → Choices) → Ghosts S → (L → ℕ) → CommandIo C S L → List (List ℕ)
+    → Cells
     → List ℕ → Trace
-due_trace choices screen most io given cells due = with_due due (io_trace choices screen most io given cells)
+pending_trace choices screen most io given cells pending = with_pending pending
+    (io_trace choices screen most io given cells)
 
 pub record SameBorrows {C S L : Type 0} (old new : CommandIo C S L) : Type 0 where
   pub chooser : new.chooser.ghost_name ≡ old.chooser.ghost_name

@@ -40,7 +40,7 @@ pub use Rattle.ptb_command.specs.Act.{parts_action, answer_instead, item_action,
 pub use Rattle.ptb_command.specs.Act.{first_width, padded_decimal, width_of, is_past, command_action}
 pub use Rattle.ptb_command.specs.Actions.{goes_on, show, work_action, show as show_action}
 pub use Rattle.ptb_command.specs.Acts.{Refines}
-pub use Rattle.ptb_command.specs.CommandIo.{due_trace, SameBorrows, SameDevices}
+pub use Rattle.ptb_command.specs.CommandIo.{pending_trace, SameBorrows, SameDevices}
 pub use Rattle.ptb_command.specs.Configuration.{Configuration}
 pub use Rattle.ptb_command.specs.Devices.{Devices, with_choices, refused_answers, nothing_refused, refused_by}
 pub use Rattle.ptb_command.specs.Devices.{screen_state, with_screen}
@@ -52,7 +52,7 @@ pub use Rattle.ptb_command.specs.Representation.{Begun}
 pub use Rattle.ptb_command.specs.ScreenOperations.{HasAsked, HasAnswered, StoresLine, ArePartsDone, IsOnlyItem}
 pub use Rattle.ptb_command.specs.ScreenOperations.{IsPartDone, IsPartShown, IsPartTaken, IsShort, ShowsOrTakes}
 pub use Rattle.ptb_command.specs.Stops.{Comes, ReportsMissed, miss_of, stopped}
-pub use Rattle.ptb_command.specs.Traces.{trace, with_due, RefinesPart, Trace, fresh_after}
+pub use Rattle.ptb_command.specs.Traces.{trace, with_pending, RefinesPart, Trace, fresh_after}
 pub use Rattle.ptb_command.specs.Values.{IsValueOf}
 pub use Rattle.ptb_command.specs.declared.command_io.CommandIo.{CommandIo}
 pub use Rattle.ptb_command.specs.declared.execution.parts.CodeInText.{CodeInText}

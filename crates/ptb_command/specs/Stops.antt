@@ -38,7 +38,7 @@ use Rattle.ptb_command.specs.State.{State}
 use Rattle.ptb_command.specs.Actions.{Faults, Ends, Halts, Action, halt}
 use Rattle.ptb_command.specs.Effects.{action_state, Begins, TakesLines}
 use Rattle.ptb_command.specs.Devices.{ScreenState, Devices, with_screen, Shows, Refusal, Unanswered, NoLine, HasBroken}
-use Rattle.ptb_command.specs.Traces.{Trace, with_due, still_due, RefinesPart}
+use Rattle.ptb_command.specs.Traces.{Trace, with_pending, still_pending, RefinesPart}
 
 abbrev pub stop_of_device : DeviceFault → Stop
 stop_of_device faults.Read = stops.Unread
@@ -189,4 +189,5 @@ RefinesPartTo o n f d g = RefinesPart o (record n { devices = d }) f g
 abbrev pub Comes : {A X : Type 0} → (Refusal → Type 0) → Trace → Trace → Action A → (X → Action A) → Result X Stop
     → Type 0
 Comes refused o n f ok (Ok x) = RefinesPart o n f (ok x)
-Comes refused o n f ok (Err e) = Stops refused (RefinesPartTo o (with_due (still_due n.due e) n) f) n.devices e
+Comes refused o n f ok (Err e) = Stops refused (RefinesPartTo o (with_pending (still_pending n.pending e) n) f)
+    n.devices e

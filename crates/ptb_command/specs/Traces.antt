@@ -1,11 +1,11 @@
 -- This file defines how far something has come that is done while it is read.
 --     Trace                    the devices, what of a state the parts of a command change, and what is still to be
 --                              shown
---     with_due due o           the same trace, with these bytes to be shown next
---     still_due due e          what is to be shown once a part stops for the reason e
+--     with_pending pending o           the same trace, with these bytes to be shown next
+--     still_pending pending e          what is to be shown once a part stops for the reason e
 --     Fits o left S            a state that is as the trace says, with these lines left
 --     state_after n bytes left S     such a state later
---     once_shown due S         such a state once what is due is shown
+--     once_shown pending S         such a state once what is pending is shown
 --     RefinesPart o n f g            from trace o to trace n, what f does is what is left to do for g
 use Rattle.std.specs.Prelude.{◌≡◌, ◌==◌, ◌-◌, ℕ, Bool, if◌then◌else◌, List, [], ◌∷◌, ◌++◌, length, slice_index, ℤ}
 use Rattle.ptb_answers.specs.Outcome.{Answers, Outcome}
@@ -23,25 +23,25 @@ pub record Trace : Type 0 where
   pub fresh : Bool
   pub cells : Cells
   -- bytes that are gathered, and not shown yet
-  pub due : List ℕ
+  pub pending : List ℕ
 
 -- where nothing is gathered
 abbrev pub trace : Devices → Bool → Cells → Trace
-trace devices fresh cells = record { devices = devices; fresh = fresh; cells = cells; due = [] }
+trace devices fresh cells = record { devices = devices; fresh = fresh; cells = cells; pending = [] }
 
-abbrev pub with_due : List ℕ → Trace → Trace
-with_due due o = record o { due = due }
+abbrev pub with_pending : List ℕ → Trace → Trace
+with_pending pending o = record o { pending = pending }
 
 -- where a device broke, or no line was left, nothing of it will be shown
-abbrev pub still_due : List ℕ → Stop → List ℕ
-still_due [] e = []
-still_due (b ∷ due) (stops.Fault f) = b ∷ due
-still_due (b ∷ due) stops.Ended = b ∷ due
-still_due (b ∷ due) stops.NoInput = []
-still_due (b ∷ due) (stops.Pause z) = b ∷ due
-still_due (b ∷ due) stops.Memory = []
-still_due (b ∷ due) stops.Unread = []
-still_due (b ∷ due) stops.Unwritten = []
+abbrev pub still_pending : List ℕ → Stop → List ℕ
+still_pending [] e = []
+still_pending (b ∷ pending) (stops.Fault f) = b ∷ pending
+still_pending (b ∷ pending) stops.Ended = b ∷ pending
+still_pending (b ∷ pending) stops.NoInput = []
+still_pending (b ∷ pending) (stops.Pause z) = b ∷ pending
+still_pending (b ∷ pending) stops.Memory = []
+still_pending (b ∷ pending) stops.Unread = []
+still_pending (b ∷ pending) stops.Unwritten = []
 
 -- whatever was shown before, these bytes make a transcript that was fresh or not into one that is or not
 abbrev pub Freshens : Bool → List ℕ → Bool → Type 0
@@ -66,10 +66,10 @@ state_after n bytes left S = record S { cells = n.cells; lines = left; shown = S
 -- these bytes after what is shown; what isn't there changes nothing
 abbrev pub following : List ℕ → List ℕ → List ℕ
 following shown [] = shown
-following shown (b ∷ due) = shown ++ b ∷ due
+following shown (b ∷ pending) = shown ++ b ∷ pending
 
 abbrev pub once_shown : List ℕ → State → State
-once_shown due S = record S { shown = following S.shown due }
+once_shown pending S = record S { shown = following S.shown pending }
 
 -- ---- moves
 
@@ -86,5 +86,5 @@ pub record RefinesPart {A : Type 0} (o n : Trace) (f g : State → Answers → O
   pub exchanges : Exchanges o.devices n.devices exchange
   pub fresh : Freshens o.fresh exchange.bytes n.fresh
   pub leaves : (S : State) (rest : List (List ℕ)) → MayFollow n.devices rest → Fits o (exchange.given ++ rest) S
-      → Leaves (f (once_shown o.due S)) exchange.answers exchange.bounds
-      (g (once_shown n.due (state_after n exchange.bytes rest S)))
+      → Leaves (f (once_shown o.pending S)) exchange.answers exchange.bounds
+      (g (once_shown n.pending (state_after n exchange.bytes rest S)))

@@ -13,14 +13,14 @@ use Rattle.ptb_command.specs.Actions.{goes_on}
 use Rattle.ptb_command.specs.Code.{AreStepsAt, FailsWithoutValue}
 use Rattle.ptb_command.specs.Devices.{Devices, with_choices, refused_answers}
 use Rattle.ptb_command.specs.Stops.{Comes}
-use Rattle.ptb_command.specs.Traces.{trace, with_due}
+use Rattle.ptb_command.specs.Traces.{trace, with_pending}
 
 pub record IsValueOf {C : Type 0} (chooser : choosers.Ghosts C) (steps : List Step) (e : Expression) (cells : Cells)
     (old new : C) (r : Result ℤ Stop) : Type 0 where
   pub comes :
-      (x : Tree) (d : Devices) (fresh : Bool) (due : List ℕ) → AreStepsAt steps e x
+      (x : Tree) (d : Devices) (fresh : Bool) (pending : List ℕ) → AreStepsAt steps e x
       → Comes (refused_answers (chooser.refused new))
-      (with_due due (trace (with_choices (chooser.choices old) d) fresh cells))
-      (with_due due (trace (with_choices (chooser.choices new) d) fresh cells))
+      (with_pending pending (trace (with_choices (chooser.choices old) d) fresh cells))
+      (with_pending pending (trace (with_choices (chooser.choices new) d) fresh cells))
       (value_action x) goes_on r
   pub valued : FailsWithoutValue steps e r

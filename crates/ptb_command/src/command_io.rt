@@ -29,7 +29,7 @@ pub struct CommandIo<'a, C, S, L> {
 }
 
 impl<'a, C: Chooser, S: Screen, L: LineSource> CommandIo<'a, C, S, L> {
-    ghost use Rattle.ptb_command.specs.CommandIo.{io_trace, due_trace, SameDevices};
+    ghost use Rattle.ptb_command.specs.CommandIo.{io_trace, pending_trace, SameDevices};
 
     /// These devices, taken together.
     pub fn new(
@@ -61,8 +61,8 @@ impl<'a, C: Chooser, S: Screen, L: LineSource> CommandIo<'a, C, S, L> {
     #[inline(always)]
     pub(crate) fn show(&mut self, pending: &mut PendingOutput, bytes: &[u8]) -> Result<(), Stop>
         ensures comes { (given : List (List ℕ)) (cells : Cells) → Comes nothing_refused
-            (due_trace C.choices S.Screen L.most self.old given cells pending.old)
-            (due_trace C.choices S.Screen L.most self.new given cells pending.new)
+            (pending_trace C.choices S.Screen L.most self.old given cells pending.old)
+            (pending_trace C.choices S.Screen L.most self.new given cells pending.new)
             (show_action bytes.now) goes_on result }
         ensures same { SameDevices self.old self.new }
     {
@@ -80,8 +80,8 @@ impl<'a, C: Chooser, S: Screen, L: LineSource> CommandIo<'a, C, S, L> {
         count: usize,
     ) -> Result<(), Stop>
         ensures comes { (given : List (List ℕ)) (cells : Cells) → Comes nothing_refused
-            (due_trace C.choices S.Screen L.most self.old given cells pending.old)
-            (due_trace C.choices S.Screen L.most self.new given cells pending.new)
+            (pending_trace C.choices S.Screen L.most self.old given cells pending.old)
+            (pending_trace C.choices S.Screen L.most self.new given cells pending.new)
             (goes_on tt) goes_on result }
         ensures room { count ≤ PENDING_LIMIT → IsOk result → length pending.new + count ≤ PENDING_LIMIT }
         ensures kept { length pending.old + count ≤ PENDING_LIMIT → pending.new ≡ pending.old }
@@ -102,7 +102,7 @@ impl<'a, C: Chooser, S: Screen, L: LineSource> CommandIo<'a, C, S, L> {
     #[inline(always)]
     pub(crate) fn flush(&mut self, pending: &mut PendingOutput) -> Result<(), DeviceFault>
         ensures comes { (given : List (List ℕ)) (cells : Cells) → Comes nothing_refused
-            (due_trace C.choices S.Screen L.most self.old given cells pending.old)
+            (pending_trace C.choices S.Screen L.most self.old given cells pending.old)
             (io_trace C.choices S.Screen L.most self.new given cells)
             (goes_on tt) goes_on (stopped result) }
         ensures empty { pending.new ≡ [] }

@@ -3,7 +3,7 @@
 ghost use Rattle.std.specs.Prelude.{◌≡◌, ◌↔◌, ◌≤◌, ◌+◌, ◌++◌, ◌∷◌, List, ℕ, [], length, IsTrue, IsFalse};
 ghost use Rattle.std.specs.Prelude.{drop, take};
 ghost use Rattle.ptb_command.specs.Prelude.{Cells, goes_on, show_action, Devices, screen_state, with_screen};
-ghost use Rattle.ptb_command.specs.Prelude.{nothing_refused, stopped, trace, with_due, Comes};
+ghost use Rattle.ptb_command.specs.Prelude.{nothing_refused, stopped, trace, with_pending, Comes};
 
 use crate::output::{put, show};
 use crate::stop::Stop;
@@ -149,7 +149,7 @@ impl PendingOutput {
         fresh: &mut bool,
     ) -> Result<(), DeviceFault>
         ensures comes { (d : Devices) (cells : Cells) → Comes nothing_refused
-            (with_due self.old
+            (with_pending self.old
             (trace (with_screen (screen_state S.Screen screen.old) d) fresh.old cells))
             (trace (with_screen (screen_state S.Screen screen.new) d) fresh.new cells)
             (goes_on tt) goes_on (stopped result) }
@@ -170,9 +170,9 @@ impl PendingOutput {
         bytes: &[u8],
     ) -> Result<(), Stop>
         ensures comes { (d : Devices) (cells : Cells) → Comes nothing_refused
-            (with_due self.old
+            (with_pending self.old
             (trace (with_screen (screen_state S.Screen screen.old) d) fresh.old cells))
-            (with_due self.new
+            (with_pending self.new
             (trace (with_screen (screen_state S.Screen screen.new) d) fresh.new cells))
             (show_action bytes.now) goes_on result }
         ensures gathered { length self.old + length bytes.now ≤ PENDING_LIMIT
@@ -194,9 +194,9 @@ impl PendingOutput {
         bytes: &[u8],
     ) -> Result<(), Stop>
         ensures { (d : Devices) (cells : Cells) → Comes nothing_refused
-            (with_due self.old
+            (with_pending self.old
             (trace (with_screen (screen_state S.Screen screen.old) d) fresh.old cells))
-            (with_due self.new
+            (with_pending self.new
             (trace (with_screen (screen_state S.Screen screen.new) d) fresh.new cells))
             (show_action bytes.now) goes_on result }
     {

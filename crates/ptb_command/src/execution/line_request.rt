@@ -2,7 +2,7 @@
 
 ghost use Rattle.std.specs.Prelude.{◌≡◌, ◌≤◌, ◌+◌, ℕ, List, [], ◌∷◌, ◌++◌, length, IfOk, IfSome, IsOk};
 ghost use Rattle.ptb_command.specs.Prelude.{IsTarget, Cells, goes_on, show, IsPromptIn, NamesOne, prompt_by, said_by};
-ghost use Rattle.ptb_command.specs.Prelude.{nothing_refused, due_trace, SameDevices, HasAsked, Comes, IsShort};
+ghost use Rattle.ptb_command.specs.Prelude.{nothing_refused, pending_trace, SameDevices, HasAsked, Comes, IsShort};
 ghost use Rattle.ptb_command.specs.declared.operation.Operation.TheVariants.{Input};
 
 use crate::command_io::CommandIo;
@@ -67,8 +67,8 @@ fn show_prompt<C: Chooser, S: Screen, L: LineSource>(
     pending: &mut PendingOutput,
 ) -> Result<(), Stop>
     ensures comes { (given : List (List ℕ)) (cells : Cells) → Comes nothing_refused
-        (due_trace C.choices S.Screen L.most io.old given cells pending.old)
-        (due_trace C.choices S.Screen L.most io.new given cells pending.new)
+        (pending_trace C.choices S.Screen L.most io.old given cells pending.old)
+        (pending_trace C.choices S.Screen L.most io.new given cells pending.new)
         (show (name.now ++ 58 ∷ [])) goes_on result }
     ensures same { SameDevices io.old io.new }
 {

@@ -3,7 +3,7 @@
 ghost use Rattle.std.specs.Prelude.{◌≡◌, ◌∷◌, [], ℕ, ℤ, List, Ok, IsFalse, IsTrue};
 ghost use Rattle.ptb_command.specs.Prelude.{Cells, Tree, first_width, padded_decimal, parts_action, goes_on, show};
 ghost use Rattle.ptb_command.specs.Prelude.{AreStepsAt, FailsWithoutValue, IsIn, IsLiteralIn, bytes_in, literal_bytes};
-ghost use Rattle.ptb_command.specs.Prelude.{Part, Show, nothing_refused, refused_answers, due_trace, SameDevices};
+ghost use Rattle.ptb_command.specs.Prelude.{Part, Show, nothing_refused, refused_answers, pending_trace, SameDevices};
 ghost use Rattle.ptb_command.specs.Prelude.{Comes, width_of};
 
 use crate::command_io::CommandIo;
@@ -98,9 +98,9 @@ fn show_value<C: Chooser, S: Screen, L: LineSource>(
     value: i16,
 ) -> Result<(), Stop>
     ensures comes { (given : List (List ℕ)) (cells : Cells) → Comes nothing_refused
-        (due_trace C.choices S.Screen L.most io.old given cells
+        (pending_trace C.choices S.Screen L.most io.old given cells
         pending.old)
-        (due_trace C.choices S.Screen L.most io.new given cells
+        (pending_trace C.choices S.Screen L.most io.new given cells
         pending.new)
         (show (padded_decimal width value)) goes_on result }
     ensures same { SameDevices io.old io.new }
@@ -122,8 +122,8 @@ pub(crate) fn show_expression<C: Chooser, S: Screen, L: LineSource>(
     ensures comes { (given : List (List ℕ)) (x : Tree) (rest : List Part) (operands : List ℤ) →
         AreStepsAt steps.now expression x →
         Comes (refused_answers (C.refused io.new.chooser.now))
-        (due_trace C.choices S.Screen L.most io.old given store.now output.old.pending)
-        (due_trace C.choices S.Screen L.most io.new given store.now output.new.pending)
+        (pending_trace C.choices S.Screen L.most io.old given store.now output.old.pending)
+        (pending_trace C.choices S.Screen L.most io.new given store.now output.new.pending)
         (parts_action (Show x ∷ rest) output.old.width operands)
         (λ _. parts_action rest output.new.width operands) result }
     ensures valued { FailsWithoutValue steps.now expression result }

@@ -3,7 +3,7 @@
 ghost use Rattle.std.specs.Prelude.{◌∷◌, ℕ, ℤ, Bool, List};
 ghost use Rattle.ptb_command.specs.Prelude.{Tree, or_fault, parts_action, width_of, goes_on, work_action, AreStepsAt};
 ghost use Rattle.ptb_command.specs.Prelude.{FailsWithoutValue, Part, Width, Devices, nothing_refused, refused_answers};
-ghost use Rattle.ptb_command.specs.Prelude.{with_choices, Comes, Trace, trace, with_due};
+ghost use Rattle.ptb_command.specs.Prelude.{with_choices, Comes, Trace, trace, with_pending};
 
 use crate::execution::values::long_value;
 use crate::operation::Expression;
@@ -30,12 +30,12 @@ pub(crate) fn new_width<C: Chooser>(
     store: &Store,
     chooser: &mut C,
 ) -> Result<u8, Stop>
-    ensures comes { (d : Devices) (fresh : Bool) (due : List ℕ) (x : Tree) (rest : List Part)
+    ensures comes { (d : Devices) (fresh : Bool) (pending : List ℕ) (x : Tree) (rest : List Part)
         (w : ℕ) (operands : List ℤ) →
         AreStepsAt steps.now expression x →
         Comes (refused_answers (C.refused chooser.new))
-        (with_due due (trace (with_choices (C.choices chooser.old) d) fresh store.now))
-        (with_due due (trace (with_choices (C.choices chooser.new) d) fresh store.now))
+        (with_pending pending (trace (with_choices (C.choices chooser.old) d) fresh store.now))
+        (with_pending pending (trace (with_choices (C.choices chooser.new) d) fresh store.now))
         (parts_action (Width x mark ∷ rest) w operands)
         (λ width. parts_action rest width operands) result }
     ensures valued { FailsWithoutValue steps.now expression result }

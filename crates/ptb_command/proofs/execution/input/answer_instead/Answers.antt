@@ -7,7 +7,7 @@ use Rattle.ptb_command.specs.Devices.{refused_answers}
 use Rattle.ptb_command.specs.Act.{store}
 use Rattle.ptb_command.specs.Actions.{goes_on}
 use Rattle.ptb_command.specs.CommandIo.{io_devices}
-use Rattle.ptb_command.specs.Traces.{trace, with_due, RefinesPart}
+use Rattle.ptb_command.specs.Traces.{trace, with_pending, RefinesPart}
 use Rattle.ptb_command.proofs.Actions.{stops_unrefused}
 use Rattle.ptb_command.proofs.Borrows.{devices_then}
 use Rattle.ptb_command.proofs.InputItems.{chosen_value, chosen_stops, instead_value_stops}
@@ -83,11 +83,11 @@ returns g c = record {
       c.args.pending.now c.args.store.now c.requires.bound c.args.target c.in_ok-value.value
       (rw bound at c.in_ok-value.ensures.value.gives) in
       let d = io_devices g.C.Chooser.choices g.S.Screen g.L.LineSource.most c.show-2.new.self given in
-      let n = with_due c.show-2.new.pending (trace d c.show-2.new.self.fresh c.args.store.now) in
+      let n = with_pending c.show-2.new.pending (trace d c.show-2.new.self.fresh c.args.store.now) in
       instead_stored c.args.bound c.args.target c.in_ok-value.value _ refl value
       (rw digits at (c.in_ok-show.ensures.comes given c.args.store.now))
       (c.in_ok-show-2.ensures.comes given c.args.store.now)
-      (subst (λ (z : ℤ). RefinesPart n (with_due c.show-2.new.pending (trace d c.show-2.new.self.fresh
+      (subst (λ (z : ℤ). RefinesPart n (with_pending c.show-2.new.pending (trace d c.show-2.new.self.fresh
       c.store_value.new.store)) (store c.args.target z) (goes_on tt)) same
       (store_refines_part d c.show-2.new.self.fresh c.show-2.new.pending c.args.store.now c.store_value.new.store
       c.args.target _ c.store_value.ensures));

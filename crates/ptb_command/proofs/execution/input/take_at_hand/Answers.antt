@@ -2,7 +2,7 @@
 use Rattle.std.proofs.Common.{◌≡◌, [], ◌∷◌, ◌++◌, Ok, ap, refl}
 use Rattle.ptb_devices.specs.Sources.{ready_lines}
 use Rattle.ptb_expr.specs.Tree.{Var}
-use Rattle.ptb_command.specs.CommandIo.{due_trace, io_trace}
+use Rattle.ptb_command.specs.CommandIo.{pending_trace, io_trace}
 use Rattle.ptb_command.specs.Devices.{devices, screen_state}
 use Rattle.ptb_command.proofs.DirectAnswers.{letter_asked}
 use Rattle.ptb_command.proofs.InputItems.{fewer_left, gives_no_more, gives_one_more, none_given}
@@ -25,7 +25,7 @@ returns-in_default g c t steps operation short =
           (g.met.L.LineSource.gives_none s) c.take_ready.follows.holds-at-none.0;
       comes = λ before part rest operands means.
           refines_part_then
-          (fewer_left (due_trace g.C.Chooser.choices g.S.Screen g.L.LineSource.most c.args.io.now before
+          (fewer_left (pending_trace g.C.Chooser.choices g.S.Screen g.L.LineSource.most c.args.io.now before
           c.args.store.now c.args.output.now.pending) (g.L.LineSource.most u) fewer _)
           (none_given _ _);
       passed = λ part means never. (short steps part means).1 never;
