@@ -10,7 +10,7 @@ ghost use Rattle.ptb.specs.Sources.{MayOpen, open_note, watched_inner};
 use crate::progress::{ProgressLine, Progressing, Shown};
 use crate::readers::{Source, Watched};
 use crate::task::Programs;
-use crate::terminal::{Keyboard, Screen, Terminals, Typed};
+use crate::terminal::{Keyboard, TerminalWriter, Terminals, Typed};
 use ptb_serve::{FlushingWriter, Note};
 use ptb_text::Device;
 use std::cell::Cell;
@@ -63,7 +63,7 @@ pub type InputLines<'a, R> = Device<Watched<'a, Keyboard<'a, <R as Input>::Reade
 pub type ProgramText<'a, R> = Device<Watched<'a, Source<<R as Files>::File, <R as Input>::Reader>>>;
 
 /// What a request writes to.
-pub type Output<'a, R> = Progressing<'a, R, FlushingWriter<Screen<'a, Printer<'a, R>>>>;
+pub type Output<'a, R> = Progressing<'a, R, FlushingWriter<TerminalWriter<'a, Printer<'a, R>>>>;
 
 impl<'a, R: Runtime> Console<'a, R> {
     /// The console of a runtime.
@@ -117,7 +117,7 @@ impl<'a, R: Runtime> Console<'a, R> {
 
     /// Standard output.
     pub fn output(&self) -> Output<'a, R> {
-        let screen = Screen::new(io::writer(self.rt), self.typed(), &self.events.fresh);
+        let screen = TerminalWriter::new(io::writer(self.rt), self.typed(), &self.events.fresh);
         Progressing::new(FlushingWriter::new(screen), self.progress_line())
     }
 

@@ -73,16 +73,16 @@ fn note_piece(typed: &Cell<Typed>, piece: &[u8]) {
 /// A writer to a terminal. Where typed lines are noted, it leaves out their echo. It notes whether
 /// the cursor is at the start of a line.
 #[derive(Drop)]
-pub struct Screen<'a, T> {
+pub struct TerminalWriter<'a, T> {
     inner: T,
     typed: Option<&'a Cell<Typed>>,
     fresh: &'a Cell<bool>,
 }
 
-impl<'a, T> Screen<'a, T> {
+impl<'a, T> TerminalWriter<'a, T> {
     /// A writer to `inner`, which is at the start of a line.
     pub fn new(inner: T, typed: Option<&'a Cell<Typed>>, fresh: &'a Cell<bool>) -> Self {
-        Screen {
+        TerminalWriter {
             inner,
             typed,
             fresh,
@@ -90,7 +90,7 @@ impl<'a, T> Screen<'a, T> {
     }
 }
 
-impl<'a, T: io::Write> ByteSink for Screen<'a, T> {
+impl<'a, T: io::Write> ByteSink for TerminalWriter<'a, T> {
     ghost contents = { λ s. unless_watched s.typed (T.contents s.inner) };
 
     fn write(&mut self, bytes: &[u8]) -> io::Result<usize> {

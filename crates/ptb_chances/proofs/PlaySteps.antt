@@ -24,7 +24,7 @@ use Rattle.ptb_command.specs.Configuration.{Configuration}
 use Rattle.ptb_command.specs.Effects.{act_state}
 use Rattle.ptb_command.specs.Stops.{AsksUnanswered, IsOutOfLines}
 use Rattle.ptb_devices.specs.Sources.{Gives, LineList}
-use Rattle.ptb_machine.specs.Steps.{FitsProgram, PlainTurns, Steps}
+use Rattle.ptb_machine.specs.Steps.{FitsProgram, PlainTurns, DoesStep}
 use Rattle.ptb_machine.specs.TurnResults.{StepsTo, goes, ends, StepComes}
 use Rattle.ptb_chances.specs.Chances.{last_line}
 use Rattle.ptb_machine.specs.Play.{run_from}
@@ -164,7 +164,7 @@ module _ (laws : RunLaws) (p : StoredProgram) (rules : Rules) where
   module _ (S : State) (m new : Configuration) (c d : Choices) (s t : List ℕ) (given left rest : List (List ℕ))
       (most few : ℕ) (refused : Refusal → Type 0) (r answer : Result (Option Ending) RunFault)
       (u : Came p rules S c.taken m left s) (is : r ≡ answer) (l : left ≡ given ++ rest) (follows : few ≡ 0
-      → rest ≡ []) (steps : Steps refused p rules.limit m new (devices c (text_state s) most rules.choose [])
+      → rest ≡ []) (steps : DoesStep refused p rules.limit m new (devices c (text_state s) most rules.choose [])
       (devices d (text_state t) few rules.choose given) r) where
     pub step_comes : StepComes refused
         (StepsTo p.lines new (devices c (text_state s) most rules.choose []) u.state rest (turn p rules.limit u.state))
@@ -181,7 +181,7 @@ module _ (laws : RunLaws) (p : StoredProgram) (rules : Rules) where
   pub step_came : (S : State) (m new : Configuration) (c d : Choices) (s t : List ℕ) (given left rest : List (List ℕ))
       (most few : ℕ) (refused : Refusal → Type 0) (r : Result (Option Ending) RunFault)
       → r ≡ Ok None → Came p rules S c.taken m left s → left ≡ given ++ rest → (few ≡ 0 → rest ≡ [])
-      → Steps refused p rules.limit m new (devices c (text_state s) most rules.choose [])
+      → DoesStep refused p rules.limit m new (devices c (text_state s) most rules.choose [])
       (devices d (text_state t) few rules.choose given) r
       → Came p rules S d.taken new rest t
   step_came S m new c d s t given left rest most few refused r is u l follows steps =
@@ -200,7 +200,7 @@ module _ (laws : RunLaws) (p : StoredProgram) (rules : Rules) where
   module _ (S : State) (m new : Configuration) (c : Choices) (l : PlanAnswers) (s t : List ℕ)
       (given left rest : List (List ℕ)) (most few : ℕ) (r : Result (Option Ending) RunFault)
       (u : Came p rules S c.taken m left s) (lines_are : left ≡ given ++ rest) (follows : few ≡ 0 → rest ≡ [])
-      (steps : Steps (refused_by (RefusedByPlanAnswers l) (λ _. ⊥) (Some rest)) p rules.limit m new
+      (steps : DoesStep (refused_by (RefusedByPlanAnswers l) (λ _. ⊥) (Some rest)) p rules.limit m new
       (devices c (text_state s)
       most rules.choose []) (devices (plan_choices l) (text_state t) few rules.choose given) r) where
     abbrev Comes : Result (Option Ending) RunFault → Type 0

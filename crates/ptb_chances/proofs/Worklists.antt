@@ -8,7 +8,7 @@ use Rattle.std.specs.Ordering.{is_eq, match_ordering, nat_cmp}
 use Rattle.std.specs.declared.cmp.Ordering.{Ordering}
 use Rattle.std.specs.declared.cmp.Ordering.TheVariants.{Less, Equal, Greater}
 use Rattle.ptb_numbers.specs.Fractions.{Equals, plus}
-use Rattle.ptb_chances.specs.declared.worklist.Place.{Place}
+use Rattle.ptb_chances.specs.declared.worklist.SavedPlace.{SavedPlace}
 use Rattle.ptb_chances.specs.declared.worklist.Waiting.{Waiting}
 use Rattle.ptb_chances.specs.WaitingPlays.{IsJoined, Puts, Standing, Takes, unplanned, in_map}
 
@@ -151,15 +151,15 @@ joined_there v w u machine taken shown place chance positive runs =
     let there : v.place ≡ u.place = sym place in
     record {
       first = record {
-        machine = ap (λ (x : Place). x.machine) there;
-        taken = ap (λ (x : Place). x.taken) there;
-        shown = ap (λ (x : Place). x.shown.items) there;
+        machine = ap (λ (x : SavedPlace). x.machine) there;
+        taken = ap (λ (x : SavedPlace). x.taken) there;
+        shown = ap (λ (x : SavedPlace). x.shown.items) there;
         plan = refl;
       };
       second = record {
-        machine = sym machine ∙ ap (λ (x : Place). x.machine) there;
-        taken = sym taken ∙ ap (λ (x : Place). x.taken) there;
-        shown = sym shown ∙ ap (λ (x : Place). x.shown.items) there;
+        machine = sym machine ∙ ap (λ (x : SavedPlace). x.machine) there;
+        taken = sym taken ∙ ap (λ (x : SavedPlace). x.taken) there;
+        shown = sym shown ∙ ap (λ (x : SavedPlace). x.shown.items) there;
         plan = refl;
       };
       chance = chance;

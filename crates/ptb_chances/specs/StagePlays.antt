@@ -25,7 +25,7 @@ use Rattle.ptb_machine.specs.Play.{run_from}
 use Rattle.ptb_chances.specs.declared.plays.Played.{Played}
 use Rattle.ptb_chances.specs.declared.plays.Played.TheVariants as played
 use Rattle.ptb_chances.specs.declared.stage.Stage.{Stage}
-use Rattle.ptb_chances.specs.declared.worklist.Place.{Place}
+use Rattle.ptb_chances.specs.declared.worklist.SavedPlace.{SavedPlace}
 
 abbrev pub SameEnd : List ℕ → List ℕ → Type 0
 SameEnd s t = (more : List ℕ) → last_line (lines (s ++ more)) ≡ last_line (lines (t ++ more))
@@ -38,11 +38,11 @@ pub record IsStageAt (p : StoredProgram) (rules : Rules) (m : Configuration) (le
   pub choose : S.choose ≡ rules.choose
   pub same_end : SameEnd S.shown shown
 
-abbrev pub IsStageAtPlace : Stage → Place → State → Type 0
+abbrev pub IsStageAtPlace : Stage → SavedPlace → State → Type 0
 IsStageAtPlace s place S = IsStageAt s.player s.rules place.machine (drop place.taken s.devices.source.lines)
     place.shown.items S
 
-pub record CanPlay (s : Stage) (place : Place) (plan : Answers) : Type 0 where
+pub record CanPlay (s : Stage) (place : SavedPlace) (plan : Answers) : Type 0 where
   pub unspent : place.machine.spent ≡ false
   pub within : place.taken ≤ length s.devices.source.lines
   pub opens : (S : State) × IsStageAtPlace s place S × (is_open (run_from s.player s.rules S plan) ≡ true)

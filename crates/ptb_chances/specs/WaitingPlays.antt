@@ -24,7 +24,7 @@ use Rattle.ptb_machine.specs.Play.{play}
 use Rattle.ptb_chances.specs.Chances.{Row, answer_count, bound_product, chance_of_all}
 use Rattle.ptb_machine.specs.Play.{run_from}
 use Rattle.ptb_machine.specs.RunTree.{leaves, tree}
-use Rattle.ptb_chances.specs.declared.worklist.Place.{Place}
+use Rattle.ptb_chances.specs.declared.worklist.SavedPlace.{SavedPlace}
 use Rattle.ptb_chances.specs.declared.worklist.Plan.{Plan}
 use Rattle.ptb_chances.specs.declared.worklist.Waiting.{Waiting}
 use Rattle.ptb_chances.specs.declared.worklist.Worklist.{Worklist}
@@ -43,7 +43,7 @@ pub record Standing : Type 0 where
 
 -- ---- what the code holds
 
-abbrev pub planned : Place → Plan → Standing
+abbrev pub planned : SavedPlace → Plan → Standing
 planned place plan = record {
   machine = place.machine;
   taken = place.taken;

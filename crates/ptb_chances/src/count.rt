@@ -11,7 +11,7 @@ use crate::result_key::ResultKey;
 use crate::stage::Stage;
 use crate::tally::Tally;
 use crate::watch::Watch;
-use crate::worklist::{Place, Plan, Worklist};
+use crate::worklist::{Plan, SavedPlace, Worklist};
 use ptb_machine::{Ending, Line, Lines, Player, Rules, TextScreen, run_laws};
 use ptb_text::Program;
 use std::alloc::{AllocError, Global};
@@ -76,7 +76,7 @@ impl<'p, 'l> Count<'p, 'l> {
                 rules,
                 machine,
                 devices,
-                before: Place::new(alloc),
+                before: SavedPlace::new(alloc),
             },
             work,
             tally: Tally::new(alloc),
@@ -106,7 +106,7 @@ impl<'p, 'l> Count<'p, 'l> {
             }
             Played::Asks(bound) => self.work.add_plans(alloc, &plan, bound),
             Played::Goes => {
-                let place = std::mem::replace(&mut self.stage.before, Place::new(alloc));
+                let place = std::mem::replace(&mut self.stage.before, SavedPlace::new(alloc));
                 self.work.add(alloc, plan.at(place))
             }
         }

@@ -6,7 +6,7 @@ ghost use Rattle.ptb_chances.specs.Prelude.{IsStageAt, IsStageAtPlace, FitsProgr
 
 use crate::last_line::last_lines;
 use crate::plays::{PlayDevices, Played, play_plan};
-use crate::worklist::{Place, Plan};
+use crate::worklist::{Plan, SavedPlace};
 use ptb_machine::{Ending, Machine, Player, Rules, TextScreen, run_laws};
 use std::alloc::{AllocError, Global};
 
@@ -19,12 +19,17 @@ pub(crate) struct Stage<'p, 'l> {
     pub(crate) machine: Machine,
     pub(crate) devices: PlayDevices<'l>,
     /// Where the run was before the command that asks next.
-    pub(crate) before: Place,
+    pub(crate) before: SavedPlace,
 }
 
 impl<'p, 'l> Stage<'p, 'l> {
     // Plays a plan from its place, up to the end of the command that takes its last answer.
-    fn start(&mut self, alloc: Global, place: &Place, plan: &Plan) -> Result<Played, AllocError>
+    fn start(
+        &mut self,
+        alloc: Global,
+        place: &SavedPlace,
+        plan: &Plan,
+    ) -> Result<Played, AllocError>
         requires { CanPlay self.old place.now plan.now.answers.items }
         ensures player { self.new.player ≡ self.old.player }
         ensures rules { self.new.rules ≡ self.old.rules }
@@ -75,7 +80,7 @@ impl<'p, 'l> Stage<'p, 'l> {
 
     // Continues from where its machine is: up to the end of the run, which is given, or up to the next
     // command that asks.
-    fn go_on(&mut self, alloc: Global) -> Result<Option<Ending>, AllocError>
+    fn play_to_question(&mut self, alloc: Global) -> Result<Option<Ending>, AllocError>
         requires unspent { self.old.machine.spent ≡ false }
         requires within { self.old.devices.source.taken ≤ length self.old.devices.source.lines }
         requires opens { (S : State) × IsStageAt self.old.player self.old.rules self.old.machine
@@ -123,7 +128,7 @@ impl<'p, 'l> Stage<'p, 'l> {
     pub(crate) fn play(
         &mut self,
         alloc: Global,
-        place: &Place,
+        place: &SavedPlace,
         plan: &Plan,
     ) -> Result<Played, AllocError>
         requires { CanPlay self.old place.now plan.now.answers.items }
@@ -147,7 +152,7 @@ impl<'p, 'l> Stage<'p, 'l> {
             Played::Asks(bound) => return Ok(Played::Asks(bound)),
             Played::Goes => {}
         }
-        let over = self.go_on(alloc)?;
+        let over = self.play_to_question(alloc)?;
         match over {
             Some(ending) => Ok(Played::Over(ending)),
             None => Ok(Played::Goes),

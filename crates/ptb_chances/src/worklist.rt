@@ -14,7 +14,7 @@ use std::collections::BTreeMap;
 
 /// Where plays are: a machine, how many lines were taken, and the end of what was shown.
 #[derive(Drop)]
-pub(crate) struct Place {
+pub(crate) struct SavedPlace {
     pub(crate) machine: SavedMachine,
     pub(crate) taken: usize,
     pub(crate) shown: Vec<u8>,
@@ -31,7 +31,7 @@ pub(crate) struct Plan {
 /// Plays at one place, with their chance and their number.
 #[derive(Drop)]
 pub(crate) struct Waiting {
-    pub(crate) place: Place,
+    pub(crate) place: SavedPlace,
     pub(crate) chance: Fraction,
     pub(crate) runs: Natural,
 }
@@ -40,7 +40,7 @@ pub(crate) struct Waiting {
 #[derive(Drop)]
 pub(crate) struct Worklist {
     /// Where the plays of the plans are.
-    pub(crate) place: Place,
+    pub(crate) place: SavedPlace,
     pub(crate) plans: Vec<Plan>,
     /// Plays that have no plan, by the keys of their places.
     pub(crate) states: BTreeMap<u64, Waiting>,
@@ -48,10 +48,10 @@ pub(crate) struct Worklist {
     pub(crate) others: Vec<Waiting>,
 }
 
-impl Place {
+impl SavedPlace {
     /// A place where no play is.
-    pub(crate) fn new(alloc: Global) -> Place {
-        Place {
+    pub(crate) fn new(alloc: Global) -> SavedPlace {
+        SavedPlace {
             machine: SavedMachine::new(alloc),
             taken: 0,
             shown: Vec::new(alloc),
@@ -63,7 +63,7 @@ impl Place {
     /// # Errors
     ///
     /// Where there is no memory for it.
-    pub(crate) fn first(alloc: Global, player: &Player) -> Result<Place, AllocError>
+    pub(crate) fn first(alloc: Global, player: &Player) -> Result<SavedPlace, AllocError>
         ensures machine { IfOk result (λ place. IsAtFirst player.now place.machine) }
         ensures taken { IfOk result (λ place. place.taken ≡ 0) }
         ensures shown { IfOk result (λ place. place.shown.items ≡ []) }
@@ -71,7 +71,7 @@ impl Place {
         let machine = player.machine(alloc)?;
         let mut saved = SavedMachine::new(alloc);
         saved.save(&machine)?;
-        Ok(Place {
+        Ok(SavedPlace {
             machine: saved,
             taken: 0,
             shown: Vec::new(alloc),
@@ -95,7 +95,7 @@ impl Place {
     }
 
     // Whether another place is the same.
-    fn is_same(&self, other: &Place) -> bool
+    fn is_same(&self, other: &SavedPlace) -> bool
         ensures { IsTrue result → (self.now.machine ≡ other.now.machine)
             × (self.now.taken ≡ other.now.taken) × (self.now.shown.items ≡ other.now.shown.items) }
     {
@@ -133,7 +133,7 @@ impl Plan {
     }
 
     /// The same plays, which are at a place after their last answer.
-    pub(crate) fn at(self, place: Place) -> Waiting
+    pub(crate) fn at(self, place: SavedPlace) -> Waiting
         ensures { unplanned result ≡ gone_to place.machine place.taken place.shown.items
             self.chance self.runs }
     {
@@ -148,7 +148,7 @@ impl Plan {
     // The same plays after an answer more, to a question with this bound.
     fn answered(&self, alloc: Global, answer: i16, bound: i16) -> Result<Plan, AllocError>
         requires { pos 1 ≤ℤ bound }
-        ensures { (place : Place) → IfOk result (λ plan.
+        ensures { (place : SavedPlace) → IfOk result (λ plan.
             planned place plan ≡ after_answer (planned place self.now) bound answer) }
     {
         let mut answers = Vec::from_slice(alloc, &self.answers)?;
@@ -176,7 +176,7 @@ impl Worklist {
         let mut plans = Vec::new(alloc);
         plans.push(Plan::first(alloc)?)?;
         Ok(Worklist {
-            place: Place::first(alloc, player)?,
+            place: SavedPlace::first(alloc, player)?,
             plans,
             states: BTreeMap::new(alloc),
             others: Vec::new(alloc),

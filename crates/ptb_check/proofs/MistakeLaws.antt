@@ -22,7 +22,7 @@ check_laws spelling laws effects = record {
         place = at.place;
         command = at.command;
         next = at.next;
-        told =
+        reported =
             command_told spelling laws p.lines at.place at.command
             (next_is_there p.lines (end_state p input rules a).place at.place at.command at.next);
       };

@@ -124,7 +124,7 @@ module _ (spelling : SpellingLaws) (laws : CommandLaws) where
       told f is = record {
         fault = f;
         is = is;
-        told =
+        reported =
             in_all p q c f (found p q.number (text_of p q.number) (statement_there p q c e))
             (at_index (commands (text_of p q.number)) q.index c e) is;
       }

@@ -30,7 +30,7 @@ pub record IsAmong {X : Type 0} (xs : List X) (x : X) : Type 0 where
 pub record IsMistakeOf (p : Statements) (q : Place) (c : Command) : Type 0 where
   pub fault : Fault
   pub is : command_mistake p c ≡ Some fault
-  pub told : IsAmong (mistakes p) (record { number = q.number; text = text_of p q.number; fault = fault })
+  pub reported : IsAmong (mistakes p) (record { number = q.number; text = text_of p q.number; fault = fault })
 
 pub record IsWholeCommand (c : Command) : Type 0 where
   pub end : ℕ
@@ -48,7 +48,7 @@ pub record FaultsAt (p : Statements) (S : State) : Type 0 where
   pub place : Place
   pub command : Command
   pub next : next_command p S.place ≡ Some (place, command)
-  pub told : IsReported p place command
+  pub reported : IsReported p place command
 
 -- the mistake of a command is that of its code
 pub record CodeMistakeLaws : Type 0 where

@@ -1,7 +1,7 @@
 -- This file defines what the devices of a command hold.
 --     io_devices choices screen most io given         what they hold, besides the lines that the source gave
 --     io_trace choices screen most io given cells     the trace at which the devices are
---     pending_trace choices screen most io given cells pending     the same, with bytes that are gathered
+--     pending_trace choices screen most io given cells pending  the same, with bytes that are gathered
 --     SameBorrows old new                             the borrows are the same, and the rules
 --     SameDevices old new                             so is the source, which gave nothing
 use Rattle.std.specs.Prelude.{◌≡◌, ℕ, List}

@@ -1,11 +1,11 @@
 -- This file defines how far something has come that is done while it is read.
 --     Trace                    the devices, what of a state the parts of a command change, and what is still to be
 --                              shown
---     with_pending pending o           the same trace, with these bytes to be shown next
---     still_pending pending e          what is to be shown once a part stops for the reason e
+--     with_pending pending o   the same trace, with these bytes to be shown next
+--     still_pending pending e  what is to be shown once a part stops for the reason e
 --     Fits o left S            a state that is as the trace says, with these lines left
 --     state_after n bytes left S     such a state later
---     once_shown pending S         such a state once what is pending is shown
+--     once_shown pending S     such a state once what is pending is shown
 --     RefinesPart o n f g            from trace o to trace n, what f does is what is left to do for g
 use Rattle.std.specs.Prelude.{◌≡◌, ◌==◌, ◌-◌, ℕ, Bool, if◌then◌else◌, List, [], ◌∷◌, ◌++◌, length, slice_index, ℤ}
 use Rattle.ptb_answers.specs.Outcome.{Answers, Outcome}

@@ -21,7 +21,7 @@ use Rattle.ptb_machine.specs.declared.fault.RunFault.{RunFault}
 use Rattle.ptb_machine.specs.Laws.{RunLaws}
 use Rattle.ptb_machine.specs.Play.{Finish, play, turn}
 use Rattle.ptb_machine.specs.Questions.{most_answers}
-use Rattle.ptb_machine.specs.Steps.{Steps}
+use Rattle.ptb_machine.specs.Steps.{DoesStep}
 use Rattle.ptb_machine.specs.TurnResults.{StepComes, StepsTo}
 use Rattle.ptb_explore.specs.ReportText.{report_text}
 use Rattle.ptb_explore.specs.PlannedPlays.{Holds, IsRunPrefix}
@@ -59,7 +59,7 @@ module _ (laws : RunLaws) (p : StoredProgram) (input : List (List ℕ)) (rules :
 
   pub drawn_ends : (e : Ending) (r : Result (Option Ending) RunFault) → r ≡ Ok (Some e) → left ≡ given ++ rest
       → (few ≡ 0 → rest ≡ [])
-      → Steps (refused_by RefusedForMemory (λ _. ⊥) (Some rest)) p rules.limit m new
+      → DoesStep (refused_by RefusedForMemory (λ _. ⊥) (Some rest)) p rules.limit m new
       (devices c (text_state s) most rules.choose []) (devices d (text_state t) few rules.choose given) r
       → EndsBy e
   drawn_ends e r is l follows steps =

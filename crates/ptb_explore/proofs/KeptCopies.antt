@@ -15,7 +15,7 @@ use Rattle.ptb_answers.specs.Outcome.{Answers, Outcome, bound_of, bounds, bounds
 use Rattle.ptb_command.specs.Configuration.{Configuration}
 use Rattle.ptb_explore.specs.declared.copies.KeptCopy.{KeptCopy}
 use Rattle.ptb_explore.specs.Copies.{machine_of, steps_of, steps_or_none, IsCopyOf, IsSameCopy}
-use Rattle.ptb_explore.specs.Copies.{KeepsCopy, with_room, GoesBackTo, IsCopyAt, KeptFrom}
+use Rattle.ptb_explore.specs.Copies.{KeepsCopy, with_one_free, GoesBackTo, IsCopyAt, KeptFrom}
 use Rattle.ptb_explore.specs.Copies.{AreCopies, Agrees, kept_runs, newest_steps, kept_steps}
 use Rattle.ptb_explore.specs.Copies.{WentBack, last_steps_of, last_steps, AreBeginnings, AreTakenBy}
 use Rattle.ptb_explore.specs.Copies.{ArePlaces}
@@ -125,9 +125,9 @@ module _ (p : StoredProgram) (input : List (List ℕ)) (rules : Rules) where
   kept_more t u w v before taken shown lines m old new h b e f stands (inl same) =
       rw same (kept_longer t u w v 0 0 old h)
   kept_more t u w v before taken shown lines m old new h b e f stands (inr (inl same)) =
-      rw same (kept_longer t u w v 0 0 (with_room old) (kept_drop t w (length old + 1 - 64) old h))
+      rw same (kept_longer t u w v 0 0 (with_one_free old) (kept_drop t w (length old + 1 - 64) old h))
   kept_more t u w v before taken shown lines m old new h b e f stands (inr (inr (k, more, copy, is))) =
-      rw is (kept_push t u w v 0 0 (with_room old) k (kept_drop t w (length old + 1 - 64) old h)
+      rw is (kept_push t u w v 0 0 (with_one_free old) k (kept_drop t w (length old + 1 - 64) old h)
       (omega (arith, b, more, copy.taken_is)) (copy.taken_is ∙ e) (copy.shown_is ∙ f) (stands k more copy))
 
   -- none are kept

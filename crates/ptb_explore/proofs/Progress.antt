@@ -52,7 +52,7 @@ module _ {A W : Type 0} (play : Answers → Outcome A W) (most : ℕ) (reads : I
   fewer_left front a n = omega (arith, ap length (left_next play most reads under front a n))
 
 -- some reports are written, and with what is left they are the list
-pub record Progress {A W : Type 0} (play : Answers → Outcome A W) (most : ℕ) (under : Answers) (report : Answers
+pub record ListingProgress {A W : Type 0} (play : Answers → Outcome A W) (most : ℕ) (under : Answers) (report : Answers
     → List ℕ) (list : List Answers) (start front : Front) (remaining : Option ℕ) (old new : Option (List ℕ))
     (n : ℕ) : Type 0 where
   pub done : List Answers
@@ -69,9 +69,9 @@ module _ {A W : Type 0} (play : Answers → Outcome A W) (most : ℕ) (reads : I
 
   module _ (list : List Answers) (start : Front) (old : Option (List ℕ)) where
     pub progress_more : (front f' : Front) (remaining : Option ℕ) (new new' : Option (List ℕ)) (n n' : ℕ) (a : Answers)
-        → Progress play most under report list start front remaining old new n → (remaining ≡ Some 0 → ⊥)
+        → ListingProgress play most under report list start front remaining old new n → (remaining ≡ Some 0 → ⊥)
         → IsNextRun play under front a → f' ≡ At a → Appends new new' (report a) → n' ≡ min (n + 1) (2 ^ 64 - 1)
-        → Progress play most under report list start f' (less_one remaining) old new' n'
+        → ListingProgress play most under report list start f' (less_one remaining) old new' n'
     progress_more front f' remaining new new' n n' a p h next e w c = record {
       done = p.done ++ a ∷ [];
       split = p.split ∙ ap (λ x. p.done ++ x) (left_more play most reads under front remaining a h next)
@@ -84,7 +84,7 @@ module _ {A W : Type 0} (play : Answers → Outcome A W) (most : ℕ) (reads : I
     }
 
     pub progress_whole : (front : Front) (new : Option (List ℕ)) (n : ℕ)
-        → Progress play most under report list start front (Some 0) old new n
+        → ListingProgress play most under report list start front (Some 0) old new n
         → WritesList play under report list start front old new n
     progress_whole front new n p =
         let e : list ≡ p.done = p.split ∙ append-nil p.done in
@@ -95,7 +95,7 @@ module _ {A W : Type 0} (play : Answers → Outcome A W) (most : ℕ) (reads : I
         }
 
     pub progress_last : (front : Front) (remaining : Option ℕ) (new : Option (List ℕ)) (n : ℕ)
-        → Progress play most under report list start front remaining old new n → IsLast play under front
+        → ListingProgress play most under report list start front remaining old new n → IsLast play under front
         → WritesList play under report list start End old new n
     progress_last front remaining new n p last =
         let e : list ≡ p.done = p.split ∙ ap (λ x. p.done ++ x) (left_last play most reads under front remaining last)
@@ -108,7 +108,7 @@ module _ {A W : Type 0} (play : Answers → Outcome A W) (most : ℕ) (reads : I
         }
 
     pub progress_some : (front : Front) (remaining : Option ℕ) (new : Option (List ℕ)) (n : ℕ)
-        → Progress play most under report list start front remaining old new n → (remaining ≡ Some 0 → ⊥)
+        → ListingProgress play most under report list start front remaining old new n → (remaining ≡ Some 0 → ⊥)
         → (IsLast play under front → ⊥)
         → WritesSome play under report list start front old new n
     progress_some front remaining new n p h more =
@@ -123,7 +123,7 @@ module _ {A W : Type 0} (play : Answers → Outcome A W) (most : ℕ) (reads : I
         }
 
     pub progress_into : (front : Front) (remaining : Option ℕ) (new new' : Option (List ℕ)) (n : ℕ) (a : Answers)
-        → Progress play most under report list start front remaining old new n → (remaining ≡ Some 0 → ⊥)
+        → ListingProgress play most under report list start front remaining old new n → (remaining ≡ Some 0 → ⊥)
         → IsNextRun play under front a → TakesSome new new' (report a)
         → WritesInto play under report list start (At a) old new' n
     progress_into front remaining new new' n a p h next part = record {

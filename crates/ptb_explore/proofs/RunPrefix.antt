@@ -24,7 +24,7 @@ use Rattle.ptb_command.specs.Configuration.{Configuration}
 use Rattle.ptb_command.specs.Effects.{act_state}
 use Rattle.ptb_command.specs.Representation.{Represents}
 use Rattle.ptb_command.specs.Stops.{AsksUnanswered, IsOutOfLines}
-use Rattle.ptb_machine.specs.Steps.{PlainTurns, Steps}
+use Rattle.ptb_machine.specs.Steps.{PlainTurns, DoesStep}
 use Rattle.ptb_machine.specs.TurnResults.{StepsTo, goes, ends, StepComes}
 use Rattle.ptb_answers.specs.declared.rules.Rules.{Rules}
 use Rattle.ptb_machine.specs.Questions.{most_answers}
@@ -244,7 +244,7 @@ module _ (laws : RunLaws) (p : StoredProgram) (input : List (List ℕ)) (rules :
   pub step_goes : (m new : Configuration) (c d : Choices) (s t : List ℕ) (given left rest : List (List ℕ))
       (most few : ℕ) (refused : Refusal → Type 0) (r : Result (Option Ending) RunFault)
       → r ≡ Ok None → IsRunPrefix p input rules c s left m → left ≡ given ++ rest → (few ≡ 0 → rest ≡ [])
-      → Steps refused p rules.limit m new (devices c (text_state s) most rules.choose [])
+      → DoesStep refused p rules.limit m new (devices c (text_state s) most rules.choose [])
       (devices d (text_state t) few rules.choose given) r
       → (d.plan ≡ c.plan) × IsRunPrefix p input rules d t rest new
       × ((m.steps < rules.limit) × (new.steps ≡ m.steps + 1))
@@ -277,7 +277,7 @@ module _ (laws : RunLaws) (p : StoredProgram) (input : List (List ℕ)) (rules :
   pub step_ends : (m new : Configuration) (c d : Choices) (bound : ℤ) (s t : List ℕ) (given left rest : List (List ℕ))
       (most few : ℕ) (e : Ending) (r : Result (Option Ending) RunFault)
       → r ≡ Ok (Some e) → IsRunPrefix p input rules c s left m → left ≡ given ++ rest → (few ≡ 0 → rest ≡ [])
-      → Steps (refused_by (RefusedByPlan d bound) (λ _. ⊥) (Some rest)) p rules.limit m new
+      → DoesStep (refused_by (RefusedByPlan d bound) (λ _. ⊥) (Some rest)) p rules.limit m new
       (devices c (text_state s) most rules.choose []) (devices d (text_state t) few rules.choose given) r
       → (d.plan ≡ c.plan) × PlayEnds (play p input rules) d bound new.steps t e
   step_ends m new c d bound s t given left rest most few e r is u l follows steps =
@@ -291,7 +291,7 @@ module _ (laws : RunLaws) (p : StoredProgram) (input : List (List ℕ)) (rules :
   module _ (refuses : Pause → ℤ → Type 0) (m new : Configuration) (c d : Choices) (s t : List ℕ)
       (given left rest : List (List ℕ)) (most few : ℕ) (r : Result (Option Ending) RunFault)
       (u : IsRunPrefix p input rules c s left m) (l : left ≡ given ++ rest) (follows : few ≡ 0
-      → rest ≡ []) (steps : Steps (refused_by refuses (λ _. ⊥) (Some rest)) p rules.limit m new
+      → rest ≡ []) (steps : DoesStep (refused_by refuses (λ _. ⊥) (Some rest)) p rules.limit m new
       (devices c (text_state s) most rules.choose []) (devices d (text_state t) few rules.choose given) r) where
     abbrev Fault : RunFault → Type 0
     Fault f = StepComes (refused_by refuses (λ _. ⊥) (Some rest))
@@ -372,7 +372,7 @@ module _ (p : StoredProgram) (input : List (List ℕ)) (rules : Rules) (m new : 
 
   pub step_extends : (o : Option Ending) (r : Result (Option Ending) RunFault) → r ≡ Ok o → left ≡ given ++ rest
       → (few ≡ 0 → rest ≡ [])
-      → Steps refused p rules.limit m new (devices c (text_state s) most rules.choose [])
+      → DoesStep refused p rules.limit m new (devices c (text_state s) most rules.choose [])
       (devices d (text_state t) few rules.choose given) r
       → Extends c d s t
   step_extends None r is l follows steps =

@@ -15,7 +15,7 @@ use Rattle.ptb_explore.specs.Beginnings.{Splitting, beginning_line, split_play, 
 use Rattle.ptb_explore.specs.Listing.{fault_after, NextWrites, WritesList, WritesRuns}
 use Rattle.ptb_explore.specs.Plans.{IsPosition, front_at}
 use Rattle.ptb_machine.specs.RunTree.{At, Front, runs_after}
-use Rattle.ptb_explore.proofs.Progress.{Progress, fewer_left, progress_into, progress_last}
+use Rattle.ptb_explore.proofs.Progress.{ListingProgress, fewer_left, progress_into, progress_last}
 use Rattle.ptb_explore.proofs.Progress.{progress_more, progress_some}
 use Rattle.ptb_explore.proofs.StoppedPlays.{bounds_within, run_within, stopped_reads}
 
@@ -72,7 +72,8 @@ module _ (form : Form) (first s : Splitting) (same : s ≡ record first { front 
       (λ (x : Splitting). NextWrites (game_of x) [] (beginning_line form (split_play x)) s.front f old new r) same h
 
   module _ (reads : IsReader (game_of first) first.most) (list : List Answers) (old new : Option (List ℕ)) (n : ℕ)
-      (progress : Progress (game_of first) first.most [] (beginning_line form (split_play first)) list first.front
+      (progress : ListingProgress (game_of first) first.most []
+      (beginning_line form (split_play first)) list first.front
       s.front None old new n) (f : Front) (new' : Option (List ℕ)) where
     -- there is no next list
     pub no_line : (b : Bool) → b ≡ false
@@ -112,7 +113,8 @@ module _ (form : Form) (first s : Splitting) (same : s ≡ record first { front 
       one_line_fewer = rw one.2 (fewer_left (game_of first) first.most reads [] s.front one.0 one.1)
 
       pub one_line_more : (m : ℕ) → m ≡ min (n + 1) (2 ^ 64 - 1)
-          → Progress (game_of first) first.most [] (beginning_line form (split_play first)) list first.front f None old
+          → ListingProgress (game_of first) first.most [] (beginning_line form (split_play first)) list first.front f
+          None old
           new' m
       one_line_more m count =
           progress_more (game_of first) first.most reads [] (beginning_line form (split_play first)) list first.front

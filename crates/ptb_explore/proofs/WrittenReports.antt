@@ -16,7 +16,7 @@ use Rattle.ptb_devices.specs.Screens.{IsScreenFault}
 use Rattle.ptb_explore.specs.Listing.{fault_after, less_one, NextWrites, WritesList, WritesRuns}
 use Rattle.ptb_explore.specs.Report.{report}
 use Rattle.ptb_machine.specs.RunTree.{Front, runs_after}
-use Rattle.ptb_explore.proofs.Progress.{Progress, progress_more, progress_whole, progress_last}
+use Rattle.ptb_explore.proofs.Progress.{ListingProgress, progress_more, progress_whole, progress_last}
 use Rattle.ptb_explore.proofs.Progress.{progress_some, progress_into, fewer_left}
 
 -- a refusal of memory is no fault of the writer
@@ -71,7 +71,7 @@ module _ (form : Form) (first e : Exploration) (same : e ≡ record first {
       subst (λ (x : Exploration). NextWrites (play_of x) x.under (report form (play_of x)) e.front f old new r) same h
 
   module _ (reads : IsReader (play_of first) (most_of first)) (list : List Answers) (remaining : Option ℕ)
-      (old new : Option (List ℕ)) (n : ℕ) (progress : Progress (play_of first) (most_of first) first.under
+      (old new : Option (List ℕ)) (n : ℕ) (progress : ListingProgress (play_of first) (most_of first) first.under
       (report form (play_of first)) list first.front e.front remaining old new n) where
     -- no more are wanted
     pub all_wanted : false ≡ not (option_eq eqb remaining (Some 0))
@@ -79,7 +79,7 @@ module _ (form : Form) (first e : Exploration) (same : e ≡ record first {
     all_wanted h = wanted remaining progress h
       where
         wanted : (o : Option ℕ)
-            → Progress (play_of first) (most_of first) first.under (report form (play_of first)) list first.front
+            → ListingProgress (play_of first) (most_of first) first.under (report form (play_of first)) list first.front
             e.front o old new n
             → false ≡ not (option_eq eqb o (Some 0))
             → WritesList (play_of first) first.under (report form (play_of first)) list first.front e.front old new n
@@ -137,7 +137,8 @@ module _ (form : Form) (first e : Exploration) (same : e ≡ record first {
           one_fewer = rw one.2 (fewer_left (play_of first) (most_of first) reads first.under e.front one.0 one.1)
 
           pub one_more : (left : Option ℕ) → left ≡ less_one remaining → (m : ℕ) → m ≡ min (n + 1) (2 ^ 64 - 1)
-              → Progress (play_of first) (most_of first) first.under (report form (play_of first)) list first.front f
+              → ListingProgress (play_of first) (most_of first) first.under
+              (report form (play_of first)) list first.front f
               left old new' m
           one_more left fewer m count =
               rw fewer (progress_more (play_of first) (most_of first) reads first.under

@@ -2,7 +2,7 @@
 --     machine_of k, steps_of k               the machine of a copy, and how many commands it had begun
 --     IsCopyOf m taken shown lines k         a copy of this machine, which had come so far
 --     IsSameCopy k j                         j is a copy as k is
---     with_room ks                           what is left of the copies where there is room for one more
+--     with_one_free ks                       what is left of the copies where there is room for one more
 --     KeepsCopy before m taken shown lines old new    what keeping one more leaves of the copies
 --     GoesBack most old new                  those that took more answers than this are dropped
 --     AreTakenBy p input rules a n           by the n-th command, and no earlier one, all of the answers a are taken
@@ -58,14 +58,14 @@ pub record IsSameCopy (k j : KeptCopy) : Type 0 where
   pub lines_is : j.lines ≡ k.lines
 
 -- where as many are kept as can be, the one with the fewest answers is dropped
-abbrev pub with_room : List KeptCopy → List KeptCopy
-with_room ks = drop (length ks + 1 - 64) ks
+abbrev pub with_one_free : List KeptCopy → List KeptCopy
+with_one_free ks = drop (length ks + 1 - 64) ks
 
 -- the new one is kept only where more answers were taken than before, and where it isn't refused memory
 abbrev pub KeepsCopy : ℕ → Configuration → ℕ → ℕ → ℕ → List KeptCopy → List KeptCopy → Type 0
 KeepsCopy before m taken shown lines old new =
-    (new ≡ old) ⊎ (new ≡ with_room old)
-    ⊎ ((k : KeptCopy) × (before < taken) × IsCopyOf m taken shown lines k × (new ≡ with_room old ++ k ∷ []))
+    (new ≡ old) ⊎ (new ≡ with_one_free old)
+    ⊎ ((k : KeptCopy) × (before < taken) × IsCopyOf m taken shown lines k × (new ≡ with_one_free old ++ k ∷ []))
 
 -- those that are dropped had taken more answers, and the newest that is left had not
 pub record GoesBack (most : ℕ) (old new : List KeptCopy) : Type 0 where

@@ -3,7 +3,7 @@
 ghost use Rattle.std.specs.Prelude.{◌≡◌, ◌<◌, ℕ, ℤ, List, Option, [], false, IfOk, drop, length};
 ghost use Rattle.ptb_command.specs.Representation.{Represents};
 ghost use Rattle.ptb_command.specs.State.{first_state};
-ghost use Rattle.ptb_explore.specs.Copies.{KeepsCopy, GoesBackTo, IsSameCopy, with_room};
+ghost use Rattle.ptb_explore.specs.Copies.{KeepsCopy, GoesBackTo, IsSameCopy, with_one_free};
 
 use arrayvec::ArrayVec;
 use ptb_machine::{Machine, Player};
@@ -28,7 +28,7 @@ pub(crate) struct KeptCopy {
 
 /// How far a run is.
 #[derive(Clone, Copy)]
-pub(crate) struct Progress {
+pub(crate) struct RunProgress {
     /// How many answers were taken.
     pub(crate) taken: usize,
     /// How many bytes were shown.
@@ -39,14 +39,14 @@ pub(crate) struct Progress {
 
 // Copies a machine, into the room of another where there is one.
 #[inline(always)]
-fn copied(
+fn copied_machine(
     alloc: Global,
-    room: Option<Box<Machine>>,
+    free: Option<Box<Machine>>,
     machine: &Machine,
 ) -> Result<Box<Machine>, AllocError>
     ensures { IfOk result (λ b. b.value ≡ machine.now) }
 {
-    match room {
+    match free {
         Some(mut copy) => {
             copy.copy_from(alloc, machine)?;
             Ok(copy)
@@ -84,11 +84,11 @@ impl KeptCopy {
     // A copy of it, which takes the room of another machine where there is one.
     // Inlined, as what calls it for each run is: a result of five words is passed in memory.
     #[inline(always)]
-    fn copy(&self, alloc: Global, room: Option<Box<Machine>>) -> Result<KeptCopy, AllocError>
+    fn copy(&self, alloc: Global, free: Option<Box<Machine>>) -> Result<KeptCopy, AllocError>
         ensures { IfOk result (IsSameCopy self.now) }
     {
         let machine = match &self.machine {
-            Some(machine) => Some(copied(alloc, room, machine)?),
+            Some(machine) => Some(copied_machine(alloc, free, machine)?),
             None => None,
         };
         Ok(KeptCopy {
@@ -117,7 +117,7 @@ pub(crate) struct Copies {
 
 // The room of the last machine, or of a spare one, if there is one.
 #[inline(always)]
-fn free_room(
+fn free_machine(
     last: &mut Option<Box<Machine>>,
     spare: &mut ArrayVec<Option<Box<Machine>>, MOST_COPIES>,
 ) -> Option<Box<Machine>> {
@@ -141,11 +141,11 @@ impl Copies {
 
     // Room for one copy more: that of the one with the fewest answers, which is dropped, where there
     // are as many as can be.
-    fn room(&mut self) -> Option<Box<Machine>>
-        ensures { self.new.kept.items ≡ with_room self.old.kept.items }
+    fn machine_for_next(&mut self) -> Option<Box<Machine>>
+        ensures { self.new.kept.items ≡ with_one_free self.old.kept.items }
     {
         if self.kept.is_full() {
-            return self.oldest_room();
+            return self.oldest_machine();
         }
         self.spare.pop().flatten()
     }
@@ -153,7 +153,7 @@ impl Copies {
     // The room of the copy with the fewest answers, which is dropped. Not inlined, since few runs have so
     // many copies, and the loop of a play would keep the places of all of them.
     #[inline(never)]
-    fn oldest_room(&mut self) -> Option<Box<Machine>>
+    fn oldest_machine(&mut self) -> Option<Box<Machine>>
         requires { length self.old.kept.items ≡ 64 }
         ensures { self.new.kept.items ≡ drop 1 self.old.kept.items }
     {
@@ -177,7 +177,7 @@ impl Copies {
             Represents player.now.lines b.value (first_state player.now input choose)) }
         ensures unspent { IfOk result (λ b. b.value.spent ≡ false) }
     {
-        match free_room(&mut self.last, &mut self.spare) {
+        match free_machine(&mut self.last, &mut self.spare) {
             Some(mut machine) => {
                 player.restart(alloc, &mut machine)?;
                 Ok(machine)
@@ -193,7 +193,7 @@ impl Copies {
         alloc: Global,
         machine: &Machine,
         before: usize,
-        reached: Progress,
+        reached: RunProgress,
     )
         ensures { KeepsCopy before machine.now reached.taken reached.shown reached.lines
             self.old.kept.items self.new.kept.items }
@@ -209,18 +209,18 @@ impl Copies {
     // Adds a copy of a machine, if there is memory for it. Inlined, since each run that takes an answer keeps a
     // copy: a call would take 20 instructions more.
     #[inline(always)]
-    fn add(&mut self, alloc: Global, machine: &Machine, reached: Progress)
+    fn add(&mut self, alloc: Global, machine: &Machine, reached: RunProgress)
         ensures { (before : ℕ) → before < reached.taken
             → KeepsCopy before machine.now reached.taken reached.shown reached.lines
             self.old.kept.items self.new.kept.items }
     {
-        let Progress {
+        let RunProgress {
             taken,
             shown,
             lines,
         } = reached;
-        let room = self.room();
-        if let Ok(copy) = copied(alloc, room, machine) {
+        let free = self.machine_for_next();
+        if let Ok(copy) = copied_machine(alloc, free, machine) {
             let _ = self.kept.try_push(KeptCopy {
                 machine: Some(copy),
                 taken,
@@ -249,8 +249,8 @@ impl Copies {
                 return Ok(None);
             };
             if newest.taken <= most {
-                let room = free_room(&mut self.last, &mut self.spare);
-                return Ok(Some(newest.copy(alloc, room)?));
+                let free = free_machine(&mut self.last, &mut self.spare);
+                return Ok(Some(newest.copy(alloc, free)?));
             }
             let Some(dropped) = self.kept.pop() else {
                 return Ok(None);

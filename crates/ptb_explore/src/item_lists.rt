@@ -12,7 +12,7 @@ use std::alloc::{AllocError, Global};
 /// # Errors
 ///
 /// Where a growth was refused memory.
-pub(crate) fn copied(alloc: Global, list: &[Marked]) -> Result<Vec<Marked>, AllocError>
+pub(crate) fn copied_list(alloc: Global, list: &[Marked]) -> Result<Vec<Marked>, AllocError>
     ensures { IfOk result (λ v. v.items ≡ list.now) }
 {
     let mut items = Vec::new(alloc);

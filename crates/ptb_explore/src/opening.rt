@@ -8,7 +8,7 @@ ghost use Rattle.ptb_explore.specs.Prelude.{IsItemMismatch, IsRunMismatch, At, I
 
 use crate::explorer::Explorer;
 use crate::fault::OpenFault;
-use crate::item_lists::{copied, items_begin_with, unmarked};
+use crate::item_lists::{copied_list, items_begin_with, unmarked};
 use crate::mismatch::{Mismatch, item_mismatch, run_mismatch};
 use crate::plan::ListingPosition;
 use crate::runner::Runner;
@@ -117,7 +117,7 @@ impl<'a> Explorer<'a> {
             (most_answers program.now lines.now rules.limit) }
     {
         run_laws();
-        let items = copied(alloc, under)?;
+        let items = copied_list(alloc, under)?;
         let mut runner = Runner::new(alloc, program, lines, rules)?;
         if !under.is_empty() {
             runner.check_beginning(under)?;

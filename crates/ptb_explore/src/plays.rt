@@ -4,7 +4,7 @@ ghost use Rattle.std.specs.Prelude.{◌≡◌, ◌-◌, ◌<◌, ◌+◌, ◌≤
 ghost use Rattle.ptb_explore.specs.Prelude.{play, AreCopies, more_played, play_limit, game_of, IsSameGame, IsFresh};
 ghost use Rattle.ptb_explore.specs.Prelude.{CanPlayOn, PlayEnds, recorder_choices, recorded};
 
-use crate::copies::Progress;
+use crate::copies::RunProgress;
 use crate::fault::memory_refusal;
 use crate::runner::Runner;
 use ptb_machine::{Ending, Lines, Machine, TextScreen, run_laws};
@@ -54,7 +54,7 @@ impl<'a> Runner<'a> {
             let taken = self.chooser.given;
             let shown = screen.len();
             let lines = source.taken();
-            let reached = Progress {
+            let reached = RunProgress {
                 taken,
                 shown,
                 lines,

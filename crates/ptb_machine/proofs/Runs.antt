@@ -32,7 +32,7 @@ use Rattle.ptb_command.specs.Representation.{Represents}
 use Rattle.ptb_machine.specs.PlayResults.{played_bytes, Plays, refused_by_pause, IsFinished}
 use Rattle.ptb_machine.specs.PlayResults.{IsUnanswered, IsUnfinished, LacksInput, RunComes}
 use Rattle.ptb_machine.specs.Runs.{Runs, StopsAt}
-use Rattle.ptb_machine.specs.Steps.{IsStateBefore, Steps, PlainTurns}
+use Rattle.ptb_machine.specs.Steps.{IsStateBefore, DoesStep, PlainTurns}
 use Rattle.ptb_machine.specs.TurnResults.{StepsTo, goes, ends, StepComes}
 use Rattle.ptb_command.proofs.PublicLemmas.{begins_joined, takes_joined, shows_then, exchanges_none}
 use Rattle.ptb_command.proofs.PublicLemmas.{exchanges_then, no_lines, has_broken_from, leaves_itself, leaves_then}
@@ -271,12 +271,12 @@ module _ (refused : Refusal → Type 0) (p : StoredProgram) (rules : Rules) (m n
   }
 
   -- the run continues
-  pub run_on : Steps refused p rules.limit m n (record d { given = [] }) e (Ok None) → HasRun p rules n o (onto d e)
+  pub run_on : DoesStep refused p rules.limit m n (record d { given = [] }) e (Ok None) → HasRun p rules n o (onto d e)
   run_on s input rest f k =
       let b = before input rest f k in
       run_then p rules m n o d e input (e.given ++ rest) rest goes b (s b.leads.state rest (before_step rest f b))
 
-  pub run_falls : Steps refused p rules.limit m n (record d { given = [] }) e (Ok None)
+  pub run_falls : DoesStep refused p rules.limit m n (record d { given = [] }) e (Ok None)
       → rules.limit - n.steps < rules.limit - m.steps
   run_falls s =
       let b = before ((d.given ++ e.given) ++ []) [] (λ _. refl) refl in
@@ -465,13 +465,13 @@ module _ (refused : Refusal → Type 0) (p : StoredProgram) (rules : Rules) (m n
     comes_broken faults.Spent fresh s = absurd (fresh refl)
 
   -- it is over
-  pub run_over : (ending : Ending) → Steps refused p rules.limit m n (record d { given = [] }) e (Ok (Some ending))
+  pub run_over : (ending : Ending) → DoesStep refused p rules.limit m n (record d { given = [] }) e (Ok (Some ending))
       → Runs refused p rules o (onto d e) (Ok ending)
   run_over ending s rest f = comes_ended rest f ending (s (b rest f).leads.state rest (before_step rest f (b rest f)))
 
   -- at its limit, where this is the line of the machine's next command
   pub run_stops : (line : Option ℕ) → ((q : Option Place) → PlacesAre p.lines q n.place → line ≡ next_number p.lines q)
-      → Steps refused p rules.limit m n (record d { given = [] }) e (Ok (Some endings.Limit))
+      → DoesStep refused p rules.limit m n (record d { given = [] }) e (Ok (Some endings.Limit))
       → (rest : List (List ℕ)) → MayFollow e rest → StopsAt p rules ((d.given ++ e.given) ++ rest) o (onto d e) line
   run_stops line is s rest f =
       let b = before ((d.given ++ e.given) ++ rest) rest f refl in
@@ -487,7 +487,7 @@ module _ (refused : Refusal → Type 0) (p : StoredProgram) (rules : Rules) (m n
       }
 
   pub run_breaks : (fault : RunFault) → (fault ≡ faults.Spent → ⊥)
-      → Steps refused p rules.limit m n (record d { given = [] }) e (Err fault)
+      → DoesStep refused p rules.limit m n (record d { given = [] }) e (Err fault)
       → Runs refused p rules o (onto d e) (Err fault)
   run_breaks fault fresh s rest f =
       comes_broken rest f fault fresh (s (b rest f).leads.state rest (before_step rest f (b rest f)))

@@ -22,7 +22,7 @@ use Rattle.ptb_machine.specs.Play.{next_number}
 use Rattle.ptb_machine.specs.RunDevices.{RunDevices, held, refusals}
 use Rattle.ptb_machine.specs.declared.run_end.RunEnd.{RunEnd}
 use Rattle.ptb_machine.specs.Runs.{IsCompleteRun, IsRunToEnd, StopsAt}
-use Rattle.ptb_machine.specs.Steps.{IsTurn, PlainTurns, Steps, step_miss}
+use Rattle.ptb_machine.specs.Steps.{IsTurn, PlainTurns, DoesStep, step_miss}
 use Rattle.ptb_machine.proofs.Ends.{end_over}
 use Rattle.ptb_machine.proofs.Runs.{HasRun, run_begins, run_advanced, run_on, run_falls, run_over}
 use Rattle.ptb_machine.proofs.Runs.{run_stops, run_breaks}
@@ -65,10 +65,10 @@ module _ {C S L : Type 0} (chooser : choosers.Ghosts C) (screen : screens.Ghosts
       (gives : source.gives first.source (u.given ++ turn.given) last.source)
       (falls : source.most last.source + length turn.given ≤ source.most now.source) where
     steps_as : (x : Result (Option Ending) RunFault) → r ≡ x
-        → Steps (refusals chooser screen source last) p rules.limit m n (held chooser screen source rules now [])
+        → DoesStep (refusals chooser screen source last) p rules.limit m n (held chooser screen source rules now [])
         (held chooser screen source rules last turn.given) x
     steps_as x e =
-        subst (λ (y : Result (Option Ending) RunFault). Steps (refusals chooser screen source last) p rules.limit m n
+        subst (λ (y : Result (Option Ending) RunFault). DoesStep (refusals chooser screen source last) p rules.limit m n
         (held chooser screen source rules now []) (held chooser screen source rules last turn.given) y) e turn.steps
 
     missed_as : (x : Result (Option Ending) RunFault) → r ≡ x

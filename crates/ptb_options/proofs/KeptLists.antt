@@ -14,7 +14,7 @@ use Rattle.ptb_options.specs.declared.mistakes.Bounds.{Bounds}
 use Rattle.ptb_options.specs.declared.mistakes.Bounds.TheVariants.{Allowed, Refused}
 use Rattle.ptb_options.specs.declared.mistakes.ListOption.{ListOption}
 use Rattle.ptb_options.specs.declared.mistakes.ListOption.TheVariants.{After, Answers, Under}
-use Rattle.ptb_options.specs.declared.mistakes.Mistake.{Mistake}
+use Rattle.ptb_options.specs.declared.mistakes.ListMistake.{ListMistake}
 use Rattle.ptb_options.specs.declared.mistakes.MisspelledList.{MisspelledList}
 use Rattle.ptb_options.specs.declared.request.Mode.{Mode}
 use Rattle.ptb_options.specs.declared.request.Mode.TheVariants as modes
@@ -25,7 +25,7 @@ use Rattle.ptb_options.specs.Options.{Options, RunsIt, RefusesAnswers, RefusesIf
 use Rattle.ptb_options.specs.Options.{SpellsIfGiven, LacksMemory, bounds_for, form_of, list_text}
 
 -- a list with a mistake is none
-mistaken : (bounds : Bounds) (text : Option (List ℕ)) (m : Mistake) → HasMistake bounds text m
+mistaken : (bounds : Bounds) (text : Option (List ℕ)) (m : ListMistake) → HasMistake bounds text m
     → IsSomeAnd text (λ s. IsListOf bounds s → ⊥)
 mistaken bounds None m h = h
 mistaken bounds (Some s) m h = h.not_list
@@ -34,7 +34,7 @@ pub first_misspelled : (o : Options) (m : MisspelledList) → IsFirstMisspelled 
 first_misspelled o m h = mistaken (bounds_for m.option) (list_text o m.option) m.mistake h.1
 
 -- o are the options, and v is how the code has them
-module _ (o v : Options) (same : v ≡ o) (under : ForSome v.under (IsListOf Allowed)) (m : Mistake) where
+module _ (o v : Options) (same : v ≡ o) (under : ForSome v.under (IsListOf Allowed)) (m : ListMistake) where
   pub after_is_first : HasMistake Allowed v.after m → IsFirstMisspelled o (record { option = After; mistake = m })
   after_is_first h =
       subst (λ (z : Options). IsFirstMisspelled z (record { option = After; mistake = m })) same (under, h)

@@ -14,7 +14,7 @@ use Rattle.ptb_options.specs.AnswerLists.{IsItem, SpellsItem, SpellsList}
 use Rattle.ptb_options.specs.ListMistakes.{IsFault, IsItemOf, IsListOf, IsListMistake, list_pieces}
 use Rattle.ptb_options.specs.declared.mistakes.Bounds.{Bounds}
 use Rattle.ptb_options.specs.declared.mistakes.Bounds.TheVariants.{Allowed, Refused}
-use Rattle.ptb_options.specs.declared.mistakes.Mistake.{Mistake}
+use Rattle.ptb_options.specs.declared.mistakes.ListMistake.{ListMistake}
 use Rattle.ptb_options.specs.declared.mistakes.ItemFault.{ItemFault}
 use Rattle.ptb_options.specs.declared.mistakes.ItemFault.TheVariants.{HasBound, NotANumber}
 use Rattle.ptb_options.proofs.AnswerTexts.{list_of_words, one_item, word_of_items, word_of_list}
@@ -122,11 +122,12 @@ mistake_at bounds s ys w n fault some so_far within at each counted faulty = rec
 }
 
 -- whether a mistake was found
-pub none_found : (found : Option Mistake) (b : Bool) → b ≡ is_some found → b ≡ false → found ≡ None
+pub none_found : (found : Option ListMistake) (b : Bool) → b ≡ is_some found → b ≡ false → found ≡ None
 none_found None b told is = refl
 none_found (Some m) b told is = absurd (false≢true (sym is ∙ told))
 
-pub found_is_none : (bounds : Bounds) (s : List ℕ) (found : Option Mistake) (b : Bool) → b ≡ is_some found → b ≡ true
+pub found_is_none : (bounds : Bounds) (s : List ℕ) (found : Option ListMistake) (b : Bool) → b ≡ is_some found
+    → b ≡ true
     → IfSome found (IsListMistake bounds s) → IsListOf bounds s → ⊥
 found_is_none bounds s None b told is h = absurd (false≢true (sym told ∙ is))
 found_is_none bounds s (Some m) b told is h = h.not_list

@@ -13,7 +13,7 @@ use Rattle.ptb_options.specs.declared.mistakes.Bounds.{Bounds}
 use Rattle.ptb_options.specs.declared.mistakes.Bounds.TheVariants.{Allowed, Refused}
 use Rattle.ptb_options.specs.declared.mistakes.ItemFault.{ItemFault}
 use Rattle.ptb_options.specs.declared.mistakes.ItemFault.TheVariants.{HasBound, NotANumber}
-use Rattle.ptb_options.specs.declared.mistakes.Mistake.{Mistake}
+use Rattle.ptb_options.specs.declared.mistakes.ListMistake.{ListMistake}
 
 abbrev pub list_pieces : List ℕ → List (List ℕ)
 list_pieces s = slice_split (λ b. b == 44) s
@@ -36,7 +36,7 @@ pub record IsFault (bounds : Bounds) (w : List ℕ) (fault : ItemFault) : Type 0
   pub why : HasFault w fault
 
 -- the items before it are right, and items are counted from 1
-pub record IsListMistake (bounds : Bounds) (s : List ℕ) (m : Mistake) : Type 0 where
+pub record IsListMistake (bounds : Bounds) (s : List ℕ) (m : ListMistake) : Type 0 where
   pub not_list : IsListOf bounds s → ⊥
   pub before : List (List ℕ)
   pub after : List (List ℕ)

@@ -38,7 +38,7 @@ use Rattle.ptb_options.specs.declared.mistakes.Bounds.TheVariants.{Allowed, Refu
 use Rattle.ptb_options.specs.declared.mistakes.ListOption.{ListOption}
 use Rattle.ptb_options.specs.declared.mistakes.ListOption.TheVariants.{After, Answers, Under}
 use Rattle.ptb_options.specs.declared.mistakes.MisspelledList.{MisspelledList}
-use Rattle.ptb_options.specs.declared.mistakes.Mistake.{Mistake}
+use Rattle.ptb_options.specs.declared.mistakes.ListMistake.{ListMistake}
 use Rattle.ptb_options.specs.declared.request.Mode.{Mode}
 use Rattle.ptb_options.specs.declared.request.Mode.TheVariants as modes
 use Rattle.ptb_options.specs.declared.request.Request.{Request}
@@ -253,7 +253,7 @@ abbrev pub IsMisspelledIn : Options → ListOption → Type 0
 IsMisspelledIn o x = IsSomeAnd (list_text o x) (λ s. IsListOf (bounds_for x) s → ⊥)
 
 -- what is wrong with a list that may be left out
-abbrev pub HasMistake : Bounds → Option (List ℕ) → Mistake → Type 0
+abbrev pub HasMistake : Bounds → Option (List ℕ) → ListMistake → Type 0
 HasMistake bounds text m = IsSomeAnd text (λ s. IsListMistake bounds s m)
 
 -- the lists are looked at in this order

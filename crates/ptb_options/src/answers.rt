@@ -23,7 +23,7 @@ pub struct ItemList<T> {
 }
 
 /// A list of answers.
-pub type Answers = ItemList<i16>;
+pub type PlainAnswers = ItemList<i16>;
 
 /// A list of answers, each with its bound or without.
 pub type MarkedAnswers = ItemList<Marked>;
@@ -83,7 +83,7 @@ pub fn parse_list(alloc: Global, text: &str) -> Result<MarkedAnswers, UsageFault
 ///
 /// [`UsageFault::BadList`] where the text spells no such list; [`UsageFault::Memory`] where a growth
 /// was refused memory, and only for a list that has items.
-pub fn parse_answers(alloc: Global, text: &str) -> Result<Answers, UsageFault>
+pub fn parse_answers(alloc: Global, text: &str) -> Result<PlainAnswers, UsageFault>
     ensures ok { IfOk result (SpellsAnswers text.now) }
     ensures bad { result ≡ Err UsageFault.BadList → HasNoAnswers text.now }
     ensures memory { result ≡ Err UsageFault.Memory

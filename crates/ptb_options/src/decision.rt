@@ -6,7 +6,7 @@ ghost use Rattle.ptb_options.specs.Prelude.{SpellsAnswers, Asks, AsksMode, HasBo
 ghost use Rattle.ptb_options.specs.Prelude.{IsSpelled, RefusesOptions, RefusesAnswers, RefusesIfGiven, SpellsIfGiven};
 ghost use Rattle.ptb_options.specs.Prelude.{LacksMemory, clash, entries_of, options_of, ListOption};
 
-use crate::answers::{Answers, MarkedAnswers, parse_answers, parse_list};
+use crate::answers::{MarkedAnswers, PlainAnswers, parse_answers, parse_list};
 use crate::given_options::GivenOptions;
 use crate::mistakes::{ListOption, MisspelledList};
 use crate::request::{DEFAULT_MEMORY, Mode, Request};
@@ -110,7 +110,7 @@ fn list(alloc: Global, text: Option<&str>) -> Result<Option<MarkedAnswers>, Usag
 }
 
 // The answers that a text spells; none where there is no text.
-fn answers(alloc: Global, text: Option<&str>) -> Result<Answers, UsageFault>
+fn answers(alloc: Global, text: Option<&str>) -> Result<PlainAnswers, UsageFault>
     ensures ok { IfOk result (SpellsAnswers (unwrap_or (option_copied text.entry) (codes "none"))) }
     ensures fault { IfErr result (RefusesAnswers (option_copied text.entry)) }
 {

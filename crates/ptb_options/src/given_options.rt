@@ -7,7 +7,7 @@ ghost use Rattle.ptb_options.specs.Prelude.{IsListOf, HasBound, HasMistake, IsRu
 ghost use Rattle.ptb_options.specs.Prelude.{clash, clashes, entries_of, first_fault, form_of, is_given, options_of};
 ghost use Rattle.ptb_options.specs.Prelude.{ListOption};
 
-use crate::mistakes::{Bounds, ListOption, MisspelledList, Mistake, list_mistake};
+use crate::mistakes::{Bounds, ListMistake, ListOption, MisspelledList, list_mistake};
 use crate::request::DEFAULT_STEPS;
 use crate::usage::UsageFault;
 use clap::ArgMatches;
@@ -186,7 +186,7 @@ fn bound(number: Option<u16>) -> Option<i16>
 }
 
 // What is wrong with a list, if there is a text of one.
-fn mistake_in(text: Option<&str>, bounds: Bounds) -> Option<Mistake<'_>>
+fn mistake_in(text: Option<&str>, bounds: Bounds) -> Option<ListMistake<'_>>
     ensures none { result ≡ None → ForSome (option_copied text.entry) (IsListOf bounds) }
     ensures some { IfSome result (HasMistake bounds (option_copied text.entry)) }
 {

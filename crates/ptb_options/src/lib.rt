@@ -17,10 +17,10 @@ mod request;
 mod usage;
 mod wrong_numbers;
 
-pub use answers::{Answers, ItemList, MarkedAnswers, parse_answers, parse_list};
+pub use answers::{ItemList, MarkedAnswers, PlainAnswers, parse_answers, parse_list};
 pub use command_line::{command, parse, refusal_status};
 pub use decision::{decide, misspelled_list};
-pub use mistakes::{Bounds, ItemFault, ListOption, MisspelledList, Mistake, list_mistake};
+pub use mistakes::{Bounds, ItemFault, ListMistake, ListOption, MisspelledList, list_mistake};
 pub use request::{DEFAULT_MEMORY, DEFAULT_STEPS, Mode, Request};
 pub use usage::UsageFault;
 pub use wrong_numbers::{NumberOption, WrongNumber, wrong_number};

@@ -33,7 +33,7 @@ pub enum ItemFault {
 /// `item 2 (" 2") is not a number from 1 to 32767`.
 #[derive(Clone, Copy, Debug, PartialEq, Eq, Error)]
 #[error("item {item} ({text:?}) {fault}")]
-pub struct Mistake<'a> {
+pub struct ListMistake<'a> {
     /// The place of the item in the list, from 1.
     pub item: usize,
     /// The text of the item.
@@ -73,12 +73,12 @@ pub struct MisspelledList<'a> {
     /// The option.
     pub option: ListOption,
     /// The first faulty item.
-    pub mistake: Mistake<'a>,
+    pub mistake: ListMistake<'a>,
 }
 
 /// The first faulty item of a text that spells no list, and `None` where it spells one. Items are the
 /// texts between commas.
-pub fn list_mistake(text: &str, bounds: Bounds) -> Option<Mistake<'_>>
+pub fn list_mistake(text: &str, bounds: Bounds) -> Option<ListMistake<'_>>
     ensures none { result ≡ None → IsListOf bounds text.entry.now }
     ensures some { IfSome result (IsListMistake bounds text.entry.now) }
 {
@@ -89,7 +89,7 @@ pub fn list_mistake(text: &str, bounds: Bounds) -> Option<Mistake<'_>>
     for word in text.split(',') {
         item += 1;
         if let Some(fault) = item_fault(word, bounds) {
-            return Some(Mistake {
+            return Some(ListMistake {
                 item,
                 text: word,
                 fault,

@@ -2,7 +2,7 @@
 
 ghost use Rattle.ptb_text.specs.Statements.{IsMemorySize};
 
-use crate::answers::{Answers, MarkedAnswers};
+use crate::answers::{MarkedAnswers, PlainAnswers};
 use ptb_answers::{Form, Rules};
 
 /// The most commands that a run begins, where `--steps` is left out.
@@ -15,7 +15,7 @@ pub const DEFAULT_MEMORY: u16 = 4096;
 #[derive(Drop)]
 pub enum Mode {
     /// It is run once, with these answers.
-    Plain(Answers),
+    Plain(PlainAnswers),
     /// It is run once, with the answers that this seed gives, 0 to 4,294,967,295.
     Seeded(u64),
     /// All its runs are listed.

@@ -20,7 +20,7 @@ use Rattle.ptb_machine.specs.RunTree.{begins_with}
 use Rattle.ptb_serve.specs.declared.note.Note.{Note}
 use Rattle.ptb_serve.specs.declared.note.Note.TheVariants as notes
 use Rattle.ptb_serve.specs.ListMismatches.{IsUnbegun, items_of}
-use Rattle.ptb_serve.specs.Replies.{answers_under, front_note, is_front, is_share, note_of}
+use Rattle.ptb_serve.specs.Replies.{answers_under, front_note, is_front, begins_runs, note_of}
 
 -- an option of items has their answers
 pub items_answers : (under : Option (List Marked)) → answers_of (items_of under) ≡ answers_under under
@@ -56,10 +56,10 @@ note_is true true note e = absurd cc
 module _ (game : Answers → Outcome Finish (List ℕ)) where
   -- ---- a beginning, and a run
 
-  pub share_true : (under : List Marked) → IsMarkedBeginning game under → is_share game (Some under) ≡ true
+  pub share_true : (under : List Marked) → IsMarkedBeginning game under → begins_runs game (Some under) ≡ true
   share_true under b = both_true _ _ b.0 b.1
 
-  pub share_false : (under : List Marked) → (IsMarkedBeginning game under → ⊥) → is_share game (Some under) ≡ false
+  pub share_false : (under : List Marked) → (IsMarkedBeginning game under → ⊥) → begins_runs game (Some under) ≡ false
   share_false under none = false_from_ne_true _ (λ h. none (both_parts _ _ h))
 
   pub front_true : (under : Answers) (list : List Marked) → IsMarkedRun game list
@@ -85,7 +85,7 @@ module _ (game : Answers → Outcome Finish (List ℕ)) where
 
   -- ---- one that isn't
 
-  pub no_front : (under : Option (List Marked)) (list : List Marked) → is_share game under ≡ true
+  pub no_front : (under : Option (List Marked)) (list : List Marked) → begins_runs game under ≡ true
       → (IsMarkedRun game list → begins_with (answers_of list) (answers_under under) ≡ true → ⊥)
       → front_note game under (Some list) ≡ Some notes.NoRun
   no_front under list share none = ap₂ note_of share (front_false (answers_under under) list none)
@@ -97,7 +97,7 @@ module _ (game : Answers → Outcome Finish (List ℕ)) where
   -- ---- what is known of an explorer that was opened
 
   -- all runs begin with a list that is not named
-  share_is : (under : Option (List Marked)) → IsMarkedBeginning game (items_of under) → is_share game under ≡ true
+  share_is : (under : Option (List Marked)) → IsMarkedBeginning game (items_of under) → begins_runs game under ≡ true
   share_is None b = refl
   share_is (Some under) b = share_true under b
 

@@ -38,7 +38,7 @@ use Rattle.ptb_options.specs.declared.request.Request.{Request}
 use Rattle.ptb_serve.specs.LoadedPrograms.{ReadsInput, RefusesListIn, ServesProgram}
 use Rattle.ptb_machine.specs.PlainRuns.{IsUnreadable, input_limit}
 use Rattle.ptb_serve.specs.Replies.{Reply, refusal, reply_with, answers_under, front_note}
-use Rattle.ptb_serve.specs.Replies.{is_front, is_share, listed_runs, listing_reply, runs_reply}
+use Rattle.ptb_serve.specs.Replies.{is_front, begins_runs, listed_runs, listing_reply, runs_reply}
 use Rattle.ptb_serve.specs.Replies.{all_reply, reply_in_mode}
 use Rattle.ptb_serve.specs.ServedRequests.{outcome_of, device_note, reports_note, IsPlainRun, IsUnloaded}
 use Rattle.ptb_serve.specs.ServedRequests.{IsCheck, IsInput, ListsFewerOf, NeedsInput, NeedsWholeInput, ReadsForRun}
@@ -106,7 +106,7 @@ module _ (game : Answers → Outcome Finish (List ℕ)) (under after : Option (L
       → IsUnloaded (Some note) → ⊥
   front_note-loaded note (inl e) h = subst (λ m. IsUnloaded (Some m)) e h
   front_note-loaded note (inr e) h =
-      elim (note_is (is_share game under) (is_front game (answers_under under) after) note e) [
+      elim (note_is (begins_runs game under) (is_front game (answers_under under) after) note e) [
         | inl b ↦ subst (λ m. IsUnloaded (Some m)) b h
         | inr b ↦ subst (λ m. IsUnloaded (Some m)) b h
       ]
@@ -117,7 +117,7 @@ module _ (game : Answers → Outcome Finish (List ℕ)) (under after : Option (L
       → IsErrOf {T = ℕ} (Err note) other → ⊥
   front_note-other note other (inl e) memory beginning run h = memory cc
   front_note-other note other (inr e) memory beginning run h =
-      elim (note_is (is_share game under) (is_front game (answers_under under) after) note e) [
+      elim (note_is (begins_runs game under) (is_front game (answers_under under) after) note e) [
         | inl b ↦ beginning cc
         | inr b ↦ run cc
       ]
@@ -128,7 +128,7 @@ module _ (game : Answers → Outcome Finish (List ℕ)) (under after : Option (L
   front_note-silent first form held note (inl e) =
       subst (λ m. SilentBy (modes.All under after first form) (Some m) held held) (sym e) tt
   front_note-silent first form held note (inr e) =
-      elim (note_is (is_share game under) (is_front game (answers_under under) after) note e) [
+      elim (note_is (begins_runs game under) (is_front game (answers_under under) after) note e) [
         | inl b ↦ subst (λ m. SilentBy (modes.All under after first form) (Some m) held held) (sym b) (Appends-nil held)
         | inr b ↦ subst (λ m. SilentBy (modes.All under after first form) (Some m) held held) (sym b) (Appends-nil held)
       ]
@@ -207,7 +207,7 @@ module _ (p : StoredProgram) (rules : Rules) (under after : Option (List Marked)
     serves_unbegun input note (inr e) =
         subst (λ r. Serves r held held (outcome_of (Err note))) (sym (reply-refused input note e))
         (serves_refused input note
-        (note_is (is_share (game input) under) (is_front (game input) (answers_under under) after) note e))
+        (note_is (begins_runs (game input) under) (is_front (game input) (answers_under under) after) note e))
 
     -- by the bytes of the input, of which the lines are those that were read
     module _ (c : List ℕ) where

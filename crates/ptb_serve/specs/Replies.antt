@@ -100,9 +100,9 @@ answers_under None = []
 answers_under (Some list) = answers_of list
 
 -- a run must begin with them, and each bound that is stated must be that of its question
-abbrev pub is_share : (Answers → Outcome Finish (List ℕ)) → Option (List Marked) → Bool
-is_share game None = true
-is_share game (Some list) = is_open (game (answers_of list)) && states_bounds list (bounds game (answers_of list))
+abbrev pub begins_runs : (Answers → Outcome Finish (List ℕ)) → Option (List Marked) → Bool
+begins_runs game None = true
+begins_runs game (Some list) = is_open (game (answers_of list)) && states_bounds list (bounds game (answers_of list))
 
 -- so it is with the run after which it begins, which must be one of the listing
 abbrev pub is_front : (Answers → Outcome Finish (List ℕ)) → Answers → Option (List Marked) → Bool
@@ -118,7 +118,7 @@ note_of true false = Some notes.NoRun
 note_of true true = None
 
 abbrev pub front_note : (Answers → Outcome Finish (List ℕ)) → Option (List Marked) → Option (List Marked) → Option Note
-front_note game under after = note_of (is_share game under) (is_front game (answers_under under) after)
+front_note game under after = note_of (begins_runs game under) (is_front game (answers_under under) after)
 
 -- the runs that a listing has, where none has more answers than `most`
 abbrev pub runs_due : (Answers → Outcome Finish (List ℕ)) → ℕ → Option (List Marked) → Option (List Marked) → Option ℕ

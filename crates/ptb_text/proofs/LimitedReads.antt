@@ -33,7 +33,7 @@ pub told_as : {R : Type 0} {left now : ℕ} {input : Reads R} {result : Result P
     (step : ReadsWithin left now input result buffer) (r : Result Piece DeviceFault) → result ≡ r
     → DescribesRead r step.taken buffer left now input.left
 told_as {R} {left} {now} {input} {result} {buffer} step r is =
-    subst (λ r. DescribesRead r step.taken buffer left now input.left) is step.told
+    subst (λ r. DescribesRead r step.taken buffer left now input.left) is step.described
 
 module _ {R : Type 0} (remaining : R → Option (List ℕ)) (given failures : R → ℕ) (limit : ℕ) where
   abbrev read_from : R → R → Reads R

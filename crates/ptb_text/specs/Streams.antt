@@ -75,7 +75,7 @@ pub record ReadsWithin {R : Type 0} (left now : ℕ) (input : Reads R) (result :
   pub consumed : Consumes input.bytes input.left taken
   pub given : IsCounted input.gave input.gives (length taken)
   pub room : length taken + now ≡ left
-  pub told : DescribesRead result taken buffer left now input.left
+  pub described : DescribesRead result taken buffer left now input.left
   -- The reader is at fault where it failed, and only there.
   pub has_failed : IsErr result → HasFailed input.failed input.fails
   pub unfailed : IsOk result → input.fails ≡ input.failed

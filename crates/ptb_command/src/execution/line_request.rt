@@ -1,4 +1,4 @@
-// This file has what INPUT asks for, `Request`, and asks for it.
+// This file has what INPUT asks for, `LineRequest`, and asks for it.
 
 ghost use Rattle.std.specs.Prelude.{◌≡◌, ◌≤◌, ◌+◌, ℕ, List, [], ◌∷◌, ◌++◌, length, IfOk, IfSome, IsOk};
 ghost use Rattle.ptb_command.specs.Prelude.{IsTarget, Cells, goes_on, show, IsPromptIn, NamesOne, prompt_by, said_by};
@@ -21,7 +21,7 @@ pub(crate) const ANSWER_ROOM: usize = 262;
 
 /// A line that is asked for.
 #[derive(Clone, Copy)]
-pub(crate) struct Request<'a> {
+pub(crate) struct LineRequest<'a> {
     /// What is shown first.
     pub(crate) said: &'a [u8],
     /// What is shown before the colon of the prompt.
@@ -32,7 +32,7 @@ pub(crate) struct Request<'a> {
     pub(crate) steps: &'a [Step],
 }
 
-impl<'a> Request<'a> {
+impl<'a> LineRequest<'a> {
     /// What an INPUT asks for whose text is this.
     pub(crate) fn new(
         text: &'a [u8],
@@ -51,7 +51,7 @@ impl<'a> Request<'a> {
             Prompt::Text(range) => (bytes_in(text, range), b""),
             Prompt::Return => (b"\r", b""),
         };
-        Request {
+        LineRequest {
             said,
             name,
             destination,
@@ -110,7 +110,7 @@ impl ShortItem {
 /// Shows what a request says, finds what it stores in, and shows its prompt. There is room for an answer
 /// then.
 pub(crate) fn ask<C: Chooser, S: Screen, L: LineSource>(
-    request: &Request<'_>,
+    request: &LineRequest<'_>,
     store: &Store,
     io: &mut CommandIo<'_, C, S, L>,
     pending: &mut PendingOutput,

@@ -7,7 +7,7 @@ use crate::tests::shared::{
 use clap::error::ErrorKind;
 use ptb_explore::{Form, Marked};
 use ptb_options::{
-    Answers, Bounds, ItemFault, MarkedAnswers, Mistake, Mode, Request, UsageFault, decide,
+    Bounds, ItemFault, ListMistake, MarkedAnswers, Mode, PlainAnswers, Request, UsageFault, decide,
     list_mistake, misspelled_list, parse, parse_answers, parse_list, refusal_status, wrong_number,
 };
 use std::alloc::{AllocError, Global};
@@ -411,7 +411,7 @@ struct Misspelled(&'static str, Bounds, usize, &'static str, ItemFault);
 impl Row<Global> for Misspelled {
     fn holds(&self, _alloc: &Global) -> bool {
         let Misspelled(list, bounds, item, text, fault) = *self;
-        list_mistake(list, bounds) == Some(Mistake { item, text, fault })
+        list_mistake(list, bounds) == Some(ListMistake { item, text, fault })
     }
 }
 
@@ -517,7 +517,7 @@ fn are_made(alloc: Global) -> Result<bool, AllocError> {
         answer: 7,
         bound: Some(-7),
     }];
-    let answers = Answers::from(Vec::from_slice(alloc, &[7, -7])?);
+    let answers = PlainAnswers::from(Vec::from_slice(alloc, &[7, -7])?);
     let list = MarkedAnswers::from(Vec::from_slice(alloc, &marked)?);
     Ok(answers.as_slice() == [7, -7].as_slice() && list.as_slice() == marked.as_slice())
 }

@@ -3,7 +3,7 @@ use Rattle.std.proofs.Common.{◌≡◌, length, [], None}
 use Rattle.ptb_explore.specs.Beginnings.{beginning_line, split_play}
 use Rattle.ptb_machine.specs.RunTree.{runs_after, runs_left}
 use Rattle.ptb_explore.proofs.WrittenLines.{game_of}
-use Rattle.ptb_explore.proofs.Progress.{Progress}
+use Rattle.ptb_explore.proofs.Progress.{ListingProgress}
 use Rattle.ptb_explore.proofs.beginnings.write_beginnings.Given as goal
 
 abbrev pub invariant-loop-fault : goal.invariant-loop-fault
@@ -12,7 +12,7 @@ invariant-loop-fault g l =
     record {
       same : l.beginnings ≡ record first { front = l.beginnings.front };
       unfailed : g.W.Write.failures l.writer ≡ g.W.Write.failures l.fn.writer;
-      progress : Progress (game_of first) first.most [] (beginning_line l.fn.form (split_play first))
+      progress : ListingProgress (game_of first) first.most [] (beginning_line l.fn.form (split_play first))
           (runs_left (game_of first) first.most [] first.front None) first.front l.beginnings.front None
           (g.W.Write.contents l.fn.writer) (g.W.Write.contents l.writer) l.written;
     }

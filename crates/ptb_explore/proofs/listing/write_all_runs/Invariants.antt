@@ -3,7 +3,7 @@ use Rattle.std.proofs.Common.{◌≡◌, ◌≤◌, length}
 use Rattle.ptb_machine.specs.RunTree.{runs_left, runs_after}
 use Rattle.ptb_explore.specs.Report.{report}
 use Rattle.ptb_explore.specs.Explorations.{play_of, most_of}
-use Rattle.ptb_explore.proofs.Progress.{Progress}
+use Rattle.ptb_explore.proofs.Progress.{ListingProgress}
 use Rattle.ptb_explore.proofs.listing.write_all_runs.Given as goal
 
 abbrev pub invariant-loop-form : goal.invariant-loop-form
@@ -14,7 +14,7 @@ invariant-loop-form g l =
           { front = l.explorer.front; kept = l.explorer.kept; played = l.explorer.played };
       rises : l.fn.explorer.played ≤ l.explorer.played;
       unfailed : g.W.Write.failures l.writer ≡ g.W.Write.failures l.fn.writer;
-      progress : Progress play (most_of l.fn.explorer) l.fn.explorer.under (report l.fn.form play)
+      progress : ListingProgress play (most_of l.fn.explorer) l.fn.explorer.under (report l.fn.form play)
           (runs_left play (most_of l.fn.explorer) l.fn.explorer.under l.fn.explorer.front l.fn.first)
           l.fn.explorer.front l.explorer.front l.remaining
           (g.W.Write.contents l.fn.writer) (g.W.Write.contents l.writer) l.written;

@@ -3,8 +3,8 @@ use Rattle.std.proofs.Common.{rules, ap, drop, length, FitsSigned, w16, to_z-of_
 use Rattle.ptb_chances.proofs.Continuations.{named, plan_opens, plan_over, plan_waits}
 use Rattle.ptb_chances.proofs.stage.Stage.play.Goals as goal
 
-pub go_on-requires-clause-opens : goal.go_on-requires-clause-opens
-go_on-requires-clause-opens c =
+pub play_to_question-requires-clause-opens : goal.play_to_question-requires-clause-opens
+play_to_question-requires-clause-opens c =
     let e = c.start.ensures in
     let o = c.requires.opens in
     let plays = (rw c.in-Goes.is at c.in_ok-played.ensures.plays).1 in
@@ -36,7 +36,7 @@ returns-in-None-clause-plays c = (
       let lines_are = ap (drop c.start.new.self.devices.source.taken) e.same_lines in
       let came = (rw c.in-Goes.is at c.in_ok-played.ensures.plays).1 S h in
       plan_waits _ _ _ _ e.player e.rules S c.args.plan.now.answers.items _ _ _ lines_are _ came _ _ _ _
-      (ap (drop c.go_on.new.self.before.taken) e.same_lines) (rw c.in-None.is at c.in_ok-over.ensures.goes),
+      (ap (drop c.play_to_question.new.self.before.taken) e.same_lines) (rw c.in-None.is at c.in_ok-over.ensures.goes),
 )
 
 pub returns-in-Over-clause-plays : goal.returns-in-Over-clause-plays

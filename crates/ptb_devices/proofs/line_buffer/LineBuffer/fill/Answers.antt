@@ -46,7 +46,7 @@ returns-in-Err g c = record {
       ReadsOn_at 1 _ _ _ _ was
       (ap (λ w. state_at c.self.inside.cutter c.self.inside.is_given w c.read.new.self Failed) none)
       (read_failed g.R.Read.remaining g.R.Read.given g.R.Read.failures c.args.reader.now c.read.new.reader _ _ _ _ _ _
-      c.in-Err.ensures.reads (c.self.invariant.room c.in-Open.is) refl c.in-Err.ensures.reads.told);
+      c.in-Err.ensures.reads (c.self.invariant.room c.in-Open.is) refl c.in-Err.ensures.reads.described);
   same_piece = (ap (λ s. s.piece) c.self.view_is, ap (λ s. s.is_given) c.self.view_is);
   more = tt;
   end = tt;

@@ -5,8 +5,8 @@ use Rattle.ptb_chances.specs.declared.plays.PlayDevices.{PlayDevices}
 use Rattle.ptb_chances.proofs.PlaySteps.{came_first, fits_there}
 use Rattle.ptb_chances.proofs.Continuations.{HasAdvanced, gone, gone_on, gone_opens, gone_over, gone_waits}
 use Rattle.ptb_chances.proofs.Continuations.{turns_named}
-use Rattle.ptb_chances.proofs.stage.Stage.go_on.Goals as goal
-use Rattle.ptb_chances.proofs.stage.Stage.go_on.Goals.{After-advance}
+use Rattle.ptb_chances.proofs.stage.Stage.play_to_question.Goals as goal
+use Rattle.ptb_chances.proofs.stage.Stage.play_to_question.Goals.{After-advance}
 
 pub commands-init : goal.commands-init
 commands-init c = record {

@@ -3,7 +3,7 @@
 use Rattle.std.proofs.Common.{◌≡◌, ◌≤◌, ◌-◌, [], false, length, drop}
 use Rattle.ptb_command.specs.State.{State}
 use Rattle.ptb_chances.specs.StagePlays.{Came, IsStageAt}
-use Rattle.ptb_chances.proofs.stage.Stage.go_on.Given as goal
+use Rattle.ptb_chances.proofs.stage.Stage.play_to_question.Given as goal
 
 abbrev pub invariant-commands : goal.invariant-commands
 invariant-commands l = record {
