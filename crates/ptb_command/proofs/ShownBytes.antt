@@ -30,7 +30,7 @@ use Rattle.ptb_command.specs.Devices.{ScreenState, Devices, with_screen, bytes_a
 use Rattle.ptb_command.specs.declared.stop.Stop.{Stop}
 use Rattle.ptb_command.specs.Traces.{Trace, trace, fresh_after, RefinesPart}
 use Rattle.ptb_command.specs.Reports.{IsShown}
-use Rattle.ptb_command.specs.Stops.{stop_of_device, stopped, WantsLine, DeviceFails, Stops, RefinesPartTo, Comes}
+use Rattle.ptb_command.specs.Stops.{stop_of_device, as_stop, WantsLine, DeviceFails, Stops, RefinesPartTo, Comes}
 use Rattle.ptb_command.proofs.Exchanges.{with_answers_nil}
 use Rattle.ptb_command.proofs.PartRefinement.{leaves_itself, leaves_to, refines_part_refl}
 
@@ -125,7 +125,7 @@ module _ (old new : ScreenState) (d : Devices) (fresh : Bool) (cells : Cells) (b
 pub put_comes : (o : Trace) (d : Devices) (fresh : Bool) (cells : Cells) (bytes : List ℕ)
     (r : Result (Unit {0}) DeviceFault)
     → IsShown o (trace d fresh cells) bytes r
-    → Comes nothing_refused o (trace d fresh cells) (show bytes) goes_on (stopped r)
+    → Comes nothing_refused o (trace d fresh cells) (show bytes) goes_on (as_stop r)
 put_comes o d fresh cells bytes (Ok x) h = h
 put_comes o d fresh cells bytes (Err fault) h = h
 

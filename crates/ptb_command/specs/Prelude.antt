@@ -44,14 +44,14 @@ pub use Rattle.ptb_command.specs.CommandIo.{pending_trace, SameBorrows, SameDevi
 pub use Rattle.ptb_command.specs.Configuration.{Configuration}
 pub use Rattle.ptb_command.specs.Devices.{Devices, with_choices, refused_answers, nothing_refused, refused_by}
 pub use Rattle.ptb_command.specs.Devices.{screen_state, with_screen}
-pub use Rattle.ptb_command.specs.ExecutedCommands.{IsExecuted, code_of}
+pub use Rattle.ptb_command.specs.ExecutedCommands.{IsExecuted, context_code}
 pub use Rattle.ptb_command.specs.Execution.{Finishes, FinishesAsking}
 pub use Rattle.ptb_command.specs.Loops.{loop_of_open, AddsStep}
 pub use Rattle.ptb_command.specs.Reports.{IsShown}
 pub use Rattle.ptb_command.specs.Representation.{Begun}
 pub use Rattle.ptb_command.specs.ScreenOperations.{HasAsked, HasAnswered, StoresLine, ArePartsDone, IsOnlyItem}
 pub use Rattle.ptb_command.specs.ScreenOperations.{IsPartDone, IsPartShown, IsPartTaken, IsShort, ShowsOrTakes}
-pub use Rattle.ptb_command.specs.Stops.{Comes, ReportsMissed, miss_of, stopped}
+pub use Rattle.ptb_command.specs.Stops.{Comes, ReportsMissed, miss_of, as_stop}
 pub use Rattle.ptb_command.specs.Traces.{trace, with_pending, RefinesPart, Trace, fresh_after}
 pub use Rattle.ptb_command.specs.Values.{IsValueOf}
 pub use Rattle.ptb_command.specs.declared.command_io.CommandIo.{CommandIo}

@@ -4,7 +4,7 @@
 -- what is left next; where a device broke, the screen may have shown some of what is left.
 --     stop_of_device, stop_of                  why a command stops where a device fails, and where an expression has no
 --                                              value
---     stopped result                       the same where a device fails as why a command stops
+--     as_stop result                       the same where a device fails as why a command stops
 --     AsksNext f bound beside z            f asks a question next, which is refused for this pause
 --     Continues state shown left           what is left takes back nothing
 --     LacksLine choose ends left S         without a line it ends, or asks for an answer
@@ -46,9 +46,9 @@ stop_of_device faults.TooLong = stops.Unread
 stop_of_device faults.Write = stops.Unwritten
 stop_of_device faults.Memory = stops.Memory
 
-abbrev pub stopped : {X : Type 0} → Result X DeviceFault → Result X Stop
-stopped (Ok x) = Ok x
-stopped (Err fault) = Err (stop_of_device fault)
+abbrev pub as_stop : {X : Type 0} → Result X DeviceFault → Result X Stop
+as_stop (Ok x) = Ok x
+as_stop (Err fault) = Err (stop_of_device fault)
 
 -- a chooser that has no memory left is a device that breaks
 abbrev pub stop_of_pause : Pause → Stop

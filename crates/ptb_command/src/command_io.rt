@@ -4,7 +4,7 @@ ghost use Rattle.std.specs.Prelude.{◌≡◌, ◌≤◌, ◌+◌, List, ℕ, []
 ghost use Rattle.ptb_expr.specs.Store.{Cells};
 ghost use Rattle.ptb_command.specs.Actions.{goes_on, show as show_action};
 ghost use Rattle.ptb_command.specs.Devices.{nothing_refused};
-ghost use Rattle.ptb_command.specs.Stops.{Comes, stopped};
+ghost use Rattle.ptb_command.specs.Stops.{Comes, as_stop};
 
 use crate::pending_output::{PENDING_LIMIT, PendingOutput};
 use crate::stop::Stop;
@@ -104,7 +104,7 @@ impl<'a, C: Chooser, S: Screen, L: LineSource> CommandIo<'a, C, S, L> {
         ensures comes { (given : List (List ℕ)) (cells : Cells) → Comes nothing_refused
             (pending_trace C.choices S.Screen L.most self.old given cells pending.old)
             (io_trace C.choices S.Screen L.most self.new given cells)
-            (goes_on tt) goes_on (stopped result) }
+            (goes_on tt) goes_on (as_stop result) }
         ensures empty { pending.new ≡ [] }
         ensures chooser { self.new.chooser ≡ self.old.chooser }
         ensures same { SameDevices self.old self.new }

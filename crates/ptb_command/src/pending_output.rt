@@ -3,7 +3,7 @@
 ghost use Rattle.std.specs.Prelude.{◌≡◌, ◌↔◌, ◌≤◌, ◌+◌, ◌++◌, ◌∷◌, List, ℕ, [], length, IsTrue, IsFalse};
 ghost use Rattle.std.specs.Prelude.{drop, take};
 ghost use Rattle.ptb_command.specs.Prelude.{Cells, goes_on, show_action, Devices, screen_state, with_screen};
-ghost use Rattle.ptb_command.specs.Prelude.{nothing_refused, stopped, trace, with_pending, Comes};
+ghost use Rattle.ptb_command.specs.Prelude.{nothing_refused, as_stop, trace, with_pending, Comes};
 
 use crate::output::{put, show};
 use crate::stop::Stop;
@@ -152,7 +152,7 @@ impl PendingOutput {
             (with_pending self.old
             (trace (with_screen (screen_state S.Screen screen.old) d) fresh.old cells))
             (trace (with_screen (screen_state S.Screen screen.new) d) fresh.new cells)
-            (goes_on tt) goes_on (stopped result) }
+            (goes_on tt) goes_on (as_stop result) }
         ensures empty { self.new ≡ [] }
     {
         let result = put(screen, fresh, self.as_slice());

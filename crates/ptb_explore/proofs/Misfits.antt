@@ -13,7 +13,7 @@ use Rattle.ptb_explore.specs.declared.mismatch.Mismatch.{Mismatch}
 use Rattle.ptb_explore.specs.declared.mismatch.Mismatch.TheVariants.{OutOfRange, OtherBound}
 use Rattle.ptb_explore.specs.declared.mismatch.Mismatch.TheVariants.{NoQuestion, Missing, NotUnder}
 use Rattle.ptb_explore.specs.MarkedRuns.{IsMarkedRun, IsMarkedBeginning, is_bound, states_bounds}
-use Rattle.ptb_explore.specs.Mismatch.{IsAskedFor, IsQuestion, IsItemMismatch, IsMissing, IsRunMismatch}
+use Rattle.ptb_explore.specs.Mismatch.{IsAskedFor, IsQuestion, IsItemMismatch, LacksItem, IsRunMismatch}
 use Rattle.ptb_explore.specs.Mismatch.{IsUnder, MismatchLaws}
 use Rattle.ptb_machine.specs.RunTree.{IsRun, begins_with}
 use Rattle.ptb_machine.proofs.PublicLemmas.{length-bounds, bounds-append}
@@ -290,7 +290,7 @@ module _ {A W : Type 0} (play : Answers → Outcome A W) (most : ℕ) (reads : I
 
   data Reason (under list : List Marked) (r : Mismatch) : Type 0 where
     AtItem : IsUnder under list → IsItemMismatch play list r → Reason under list r
-    Lacks : (item : ℕ) (bound : ℤ) → r ≡ Missing item bound → IsUnder under list → IsMissing play list item bound
+    Lacks : (item : ℕ) (bound : ℤ) → r ≡ Missing item bound → IsUnder under list → LacksItem play list item bound
         → Reason under list r
     Other : r ≡ NotUnder → begins_with (answers_of list) (answers_of under) ≡ false → Reason under list r
 

@@ -18,8 +18,8 @@ use Rattle.ptb_explore.specs.declared.mismatch.Mismatch.{Mismatch}
 use Rattle.ptb_explore.specs.declared.mismatch.Mismatch.TheVariants.{OutOfRange, OtherBound}
 use Rattle.ptb_explore.specs.declared.mismatch.Mismatch.TheVariants.{NoQuestion, Missing, NotUnder}
 use Rattle.ptb_explore.specs.MarkedRuns.{IsMarkedRun, IsMarkedBeginning, is_bound, states_bounds}
-use Rattle.ptb_explore.specs.Mismatch.{IsOutOfRange, IsOtherBound, IsOver, IsItemMismatch}
-use Rattle.ptb_explore.specs.Mismatch.{IsMissing, IsRunMismatch, IsUnder, TakesItems}
+use Rattle.ptb_explore.specs.Mismatch.{IsOutOfRange, IsOtherBound, HasMoreItems, IsItemMismatch}
+use Rattle.ptb_explore.specs.Mismatch.{LacksItem, IsRunMismatch, IsUnder, TakesItems}
 use Rattle.ptb_machine.specs.RunTree.{IsRun}
 use Rattle.ptb_explore.proofs.Attempt.{run_opens}
 use Rattle.ptb_machine.proofs.PublicLemmas.{length-bounds, bounds-append}
@@ -209,7 +209,7 @@ module _ {A W : Type 0} (play : Answers → Outcome A W) (most : ℕ) (reads : I
         outside = outside;
       }
 
-      pub no_question : IsRun play (answers_of (take n list)) → IsOver play list n
+      pub no_question : IsRun play (answers_of (take n list)) → HasMoreItems play list n
       no_question run = record {
         before = take n list;
         m = there;
@@ -328,7 +328,7 @@ module _ {A W : Type 0} (play : Answers → Outcome A W) (most : ℕ) (reads : I
   pub missing_item : (list : List Marked) (bs : List ℤ) → HasBounds play (answers_of list) bs
       → IsMarkedBeginning play list
       → (bound : ℤ) → bound ≡ slice_index_or bs (length list) bound → length list < length bs
-      → IsMissing play list (length list + 1) bound
+      → LacksItem play list (length list + 1) bound
   missing_item list bs h begins bound read l =
       let n = answers_length list in
       let p = asks_next play most reads (answers_of list) bs h (omega (arith, n)) in

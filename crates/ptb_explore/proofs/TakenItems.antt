@@ -13,7 +13,7 @@ use Rattle.ptb_command.specs.declared.ending.Ending.TheVariants as endings
 use Rattle.ptb_machine.specs.Play.{Finish}
 use Rattle.ptb_explore.proofs.RecordedAnswers.{recorded_len}
 use Rattle.ptb_explore.specs.declared.recorder.Recorder.{Recorder}
-use Rattle.ptb_explore.specs.Mismatch.{IsOutOfRange, IsOver, TakesItems}
+use Rattle.ptb_explore.specs.Mismatch.{IsOutOfRange, HasMoreItems, TakesItems}
 use Rattle.ptb_explore.specs.MarkedRuns.{states_bounds}
 use Rattle.ptb_explore.specs.PlannedPlays.{Holds, PlayEnds, NextIsOutside}
 use Rattle.ptb_explore.specs.Recorders.{recorder_choices, given_bounds, recorded}
@@ -118,12 +118,12 @@ module _ (play : Answers → Outcome Finish (List ℕ)) (r : Recorder) (steps : 
 
       -- the run is over before it
       stops_ended : (result : Finish) → Holds play (recorder_choices r) (λ later. Done result later)
-          → IsOver play list count
+          → HasMoreItems play list count
       stops_ended result h = no_question play most reads list (given_bounds r) count
           (takes_ended result h) d less states (ap is_whole (ap play first_taken ∙ ended_run result h))
 
       pub stops_over : (e : Ending) → (e ≡ endings.BadAnswer → ⊥)
-          → PlayEnds play (recorder_choices r) r.refused_bound steps shown e → IsOver play list count
+          → PlayEnds play (recorder_choices r) r.refused_bound steps shown e → HasMoreItems play list count
       stops_over endings.End other h = stops_ended _ h
       stops_over endings.Stop other h = stops_ended _ h
       stops_over endings.What other h = stops_ended _ h

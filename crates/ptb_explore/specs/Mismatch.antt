@@ -55,7 +55,7 @@ module _ {A W : Type 0} (play : Answers → Outcome A W) where
     pub other : stated ≡ bound → ⊥
 
   -- the first items are a run, and more of them follow
-  pub record IsOver (list : List Marked) (items : ℕ) : Type 0 where
+  pub record HasMoreItems (list : List Marked) (items : ℕ) : Type 0 where
     pub before : List Marked
     pub m : Marked
     pub after : List Marked
@@ -67,14 +67,14 @@ module _ {A W : Type 0} (play : Answers → Outcome A W) where
   abbrev pub IsItemMismatch : List Marked → Mismatch → Type 0
   IsItemMismatch list (OutOfRange item answer bound) = IsOutOfRange list item answer bound
   IsItemMismatch list (OtherBound item stated bound) = IsOtherBound list item stated bound
-  IsItemMismatch list (NoQuestion items) = IsOver list items
+  IsItemMismatch list (NoQuestion items) = HasMoreItems list items
   IsItemMismatch list (Missing item bound) = ⊥
   IsItemMismatch list NotUnder = ⊥
 
   -- ---- a list that is no run, or none that begins with another list
 
   -- all items fit, and a run asks for one more
-  pub record IsMissing (list : List Marked) (item : ℕ) (bound : ℤ) : Type 0 where
+  pub record LacksItem (list : List Marked) (item : ℕ) (bound : ℤ) : Type 0 where
     pub item_is : item ≡ length list + 1
     pub begins : IsMarkedBeginning play list
     pub question : IsQuestion list bound
@@ -82,10 +82,10 @@ module _ {A W : Type 0} (play : Answers → Outcome A W) where
   -- how it begins is looked at first
   abbrev pub IsRunMismatch : List Marked → List Marked → Mismatch → Type 0
   IsRunMismatch under list NotUnder = begins_with (answers_of list) (answers_of under) ≡ false
-  IsRunMismatch under list (Missing item bound) = IsUnder under list × IsMissing list item bound
+  IsRunMismatch under list (Missing item bound) = IsUnder under list × LacksItem list item bound
   IsRunMismatch under list (OutOfRange item answer bound) = IsUnder under list × IsOutOfRange list item answer bound
   IsRunMismatch under list (OtherBound item stated bound) = IsUnder under list × IsOtherBound list item stated bound
-  IsRunMismatch under list (NoQuestion items) = IsUnder under list × IsOver list items
+  IsRunMismatch under list (NoQuestion items) = IsUnder under list × HasMoreItems list items
 
   -- ---- what playing a list shows
 

@@ -258,8 +258,9 @@ module _ (laws : FindingLaws) (t : List ℕ) where
     number_spelled i low f e d (Value v, j) g = spells.number f e d g
     number_spelled i low f e d (TooBig, j) g = spells.number_too_big f e d g
 
-    plain_spelled : (i : ℕ) → rest i ≤ n → word_at Functions t i ≡ None → Spells t Factor i (reading.plain t within i)
-    unfolding reading.plain reading.variable_or
+    plain_spelled : (i : ℕ) → rest i ≤ n → word_at Functions t i ≡ None
+        → Spells t Factor i (reading.plain_factor t within i)
+    unfolding reading.plain_factor reading.variable_or
     plain_spelled i low f = go (letter_at t i) refl
       where
         at_sign : letter_at t i ≡ None → (o : Option ℕ) → token_at 64 t i ≡ o
@@ -285,7 +286,7 @@ module _ (laws : FindingLaws) (t : List ℕ) where
 
         go : (o : Option (Word × ℕ)) → word_at Functions t i ≡ o
             → Spells t Factor i (if_function o (λ j. node_over Rnd j (reading.paren t within j))
-            (λ j. node_over Abs j (reading.paren t within j)) (λ j. Whole Size j) (reading.plain t within i))
+            (λ j. node_over Abs j (reading.paren t within j)) (λ j. Whole Size j) (reading.plain_factor t within i))
         go (Some (RndKw, j)) e = spells.rnd e (argument RndKw j e)
         go (Some (AbsKw, j)) e = spells.abs e (argument AbsKw j e)
         go (Some (SizeKw, j)) e = spells.size e

@@ -12,7 +12,7 @@ use Rattle.ptb_expr.specs.declared.operator.Operator.{Operator}
 use Rattle.ptb_expr.specs.Operators.{product_operator, sum_operator, comparison}
 use Rattle.ptb_expr.specs.Tree.{Tree, Num, Var, Size, Elem, Rnd, Abs, Neg, Bin, Bad, Unclosed}
 use Rattle.ptb_expr.specs.Reading.{Reading, Whole, Malformed, after, itself, node_over, missing_part, more}
-use Rattle.ptb_expr.specs.Reading.{paren, variable_or, variable, plain, factor, product, first_product}
+use Rattle.ptb_expr.specs.Reading.{paren, variable_or, variable, plain_factor, factor, product, first_product}
 use Rattle.ptb_expr.specs.Reading.{sum, expr_with, expr}
 use Rattle.ptb_expr.specs.Spells.{Production, Expr, Sum, First, MoreSum, Product, MoreProduct, Factor}
 use Rattle.ptb_expr.specs.Spells.{Variable, Paren, Spells}
@@ -98,7 +98,7 @@ module _ (t : List ℕ) (within : ℕ → Reading Tree) where
 
   factor_letter : (i : ℕ) (b : ℕ × ℕ) → word_at Functions t i ≡ None → letter_at t i ≡ Some b
       → variable t within i ≡ factor t within i
-  unfolding factor plain variable variable_or
+  unfolding factor plain_factor variable variable_or
   factor_letter i b e f = rw (e, f) refl
 
   -- with an element both are read, whether a letter is there or not
@@ -110,22 +110,22 @@ module _ (t : List ℕ) (within : ℕ → Reading Tree) where
 
   factor_element : (i j : ℕ) → word_at Functions t i ≡ None → token_at 64 t i ≡ Some j
       → variable t within i ≡ factor t within i
-  unfolding factor plain
+  unfolding factor plain_factor
   factor_element i j e f = rw e (element_or (letter_at t i) i j _ refl f)
 
   factor_number : (i j : ℕ) (v : ℤ) → word_at Functions t i ≡ None → letter_at t i ≡ None → token_at 64 t i ≡ None
       → number_at t i ≡ (Value v, j) → Whole (Num v) j ≡ factor t within i
-  unfolding factor plain variable_or
+  unfolding factor plain_factor variable_or
   factor_number i j v e f g h = rw (e, f, g, h) refl
 
   factor_too_big : (i j : ℕ) → word_at Functions t i ≡ None → letter_at t i ≡ None → token_at 64 t i ≡ None
       → number_at t i ≡ (TooBig, j) → Malformed (Bad How j) ≡ factor t within i
-  unfolding factor plain variable_or
+  unfolding factor plain_factor variable_or
   factor_too_big i j e f g h = rw (e, f, g, h) refl
 
   factor_paren : (i j : ℕ) → word_at Functions t i ≡ None → letter_at t i ≡ None → token_at 64 t i ≡ None
       → number_at t i ≡ (Absent, j) → paren t within i ≡ factor t within i
-  unfolding factor plain variable_or
+  unfolding factor plain_factor variable_or
   factor_paren i j e f g h = rw (e, f, g, h) refl
 
   variable_letter : (i b j : ℕ) → letter_at t i ≡ Some (b, j) → Whole (Var b) j ≡ variable t within i

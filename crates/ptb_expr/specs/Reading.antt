@@ -105,13 +105,14 @@ module _ (t : List ℕ) where
     variable i = variable_or (missing_part i) i
 
     -- factor = "RND" paren | "ABS" paren | "SIZE" | variable | number | paren
-    unfoldable pub plain : ℕ → Reading Tree
-    plain i = variable_or (if_number (number_at t i) (λ v j. Whole (Num v) j) (λ j. Malformed (Bad How j)) (paren i)) i
+    unfoldable pub plain_factor : ℕ → Reading Tree
+    plain_factor i =
+        variable_or (if_number (number_at t i) (λ v j. Whole (Num v) j) (λ j. Malformed (Bad How j)) (paren i)) i
 
     unfoldable pub factor : ℕ → Reading Tree
     factor i =
         if_function (word_at Functions t i)
-        (λ j. node_over Rnd j (paren j)) (λ j. node_over Abs j (paren j)) (λ j. Whole Size j) (plain i)
+        (λ j. node_over Rnd j (paren j)) (λ j. node_over Abs j (paren j)) (λ j. Whole Size j) (plain_factor i)
 
     -- product = factor { ("*" | "/") factor }
     unfoldable pub product : ℕ → Reading Tree

@@ -12,7 +12,7 @@ pub use Rattle.ptb_command.specs.Act.{ending_of, report_bytes}
 pub use Rattle.ptb_command.specs.Code.{steps_at, Code}
 pub use Rattle.ptb_command.specs.CommandIo.{SameBorrows}
 pub use Rattle.ptb_command.specs.Devices.{Devices, screen_state, with_screen}
-pub use Rattle.ptb_command.specs.ExecutedCommands.{code_of}
+pub use Rattle.ptb_command.specs.ExecutedCommands.{context_code}
 pub use Rattle.ptb_command.specs.Execution.{ContinuesAt}
 pub use Rattle.ptb_command.specs.PlainCommands.{DoesPlainly, AreDone}
 pub use Rattle.ptb_command.specs.Reports.{IsShown}

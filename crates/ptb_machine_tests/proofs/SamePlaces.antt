@@ -10,7 +10,7 @@ use Rattle.ptb_text.specs.Statements.{Statements, StoredProgram, after_lines}
 use Rattle.ptb_text.specs.Words.{past_blanks, spelling_in_front, word_at, bytes_at, letter_at, number_at, quotation_at}
 use Rattle.ptb_expr.specs.Operators.{product_operator, sum_operator, comparison}
 use Rattle.ptb_expr.specs.Reading.{Reading, Whole, Malformed, more, paren, variable_or, variable}
-use Rattle.ptb_expr.specs.Reading.{plain, factor, product, first_product, sum, expr_with, expr}
+use Rattle.ptb_expr.specs.Reading.{plain_factor, factor, product, first_product, sum, expr_with, expr}
 use Rattle.ptb_expr.specs.Reading.{expression, variable_tree}
 use Rattle.ptb_command.specs.Items.{items_within, items}
 use Rattle.ptb_command.specs.Commands.{Part, Command, assignment, string_at, print_item}
@@ -102,7 +102,8 @@ first_kind (c ∷ cs) = reading_kind c.parts
 
 unfoldable on_lines : ⊤
 unfolding digits after_lines past_blanks spelling_in_front word_at bytes_at letter_at number_at quotation_at
-    product_operator sum_operator comparison more paren variable_or variable plain factor product first_product sum
+    product_operator sum_operator comparison more paren variable_or variable plain_factor factor product first_product
+    sum
     expr_with expr expression variable_tree items_within items assignment string_at print_item print_parts parts_of
     command_at command_round commands_from
 on_lines = tt
