@@ -8,7 +8,7 @@ mod Items
 mod ItemLoops
 mod CommandLaws
 mod NewestOpens
-mod Nexts
+mod NextCommands
 mod Prompts
 mod MachinePlaces
 mod Places
@@ -38,8 +38,8 @@ mod Exchanges
 mod LastOperations
 mod NextPlaces
 mod InputItems
-mod Jumps
-mod Lasts
+mod FaultEnds
+mod FinalOperations
 mod PartRefinement
 mod Parts
 mod PlainCommands

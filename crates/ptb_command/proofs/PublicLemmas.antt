@@ -1,7 +1,7 @@
 -- This file passes on the lemmas that proofs of the crates above may cite. It declares none.
 
 pub use Rattle.ptb_command.proofs.ReadItems.{is_whole, item_in_front}
-pub use Rattle.ptb_command.proofs.Nexts.{next_here, next_last, next_later, placed}
+pub use Rattle.ptb_command.proofs.NextCommands.{next_here, next_last, next_later, placed}
 pub use Rattle.ptb_command.proofs.MachinePlaces.{is_placed, not_placed}
 pub use Rattle.ptb_command.proofs.Sameness.{same_loop}
 pub use Rattle.ptb_command.proofs.FirstParts.{next_letter}

@@ -9,7 +9,7 @@ mod SpelledTrees
 mod TakenOperators
 mod Uniqueness
 mod Zeros
-mod WithZeros
+mod SavedValues
 mod ValueReads
 mod TreeSteps
 mod WrittenTrees

@@ -4,7 +4,8 @@ use Rattle.ptb_text.specs.Words.{is_over}
 use Rattle.ptb_command.specs.Locations.{PlacesAre, NextIs}
 use Rattle.ptb_command.specs.State.{Place, next_command}
 use Rattle.ptb_command.proofs.MachinePlaces.{not_placed}
-use Rattle.ptb_command.proofs.Nexts.{placed, text_there, next_nowhere, next_here, next_last, next_empty, next_later}
+use Rattle.ptb_command.proofs.NextCommands.{placed, text_there, next_nowhere, next_here, next_last, next_empty}
+use Rattle.ptb_command.proofs.NextCommands.{next_later}
 use Rattle.ptb_command.proofs.command_finder.next_command.Goals as goal
 
 pub returns-in_err-here : goal.returns-in_err-here

@@ -2,7 +2,7 @@
 use Rattle.std.proofs.Common.{◌≡◌, ◌≤◌, ◌-◌, ◌∙◌, length, drop, sym, refl, arith}
 use Rattle.std.proofs.Math.Nat.{le-max_left, le-max_right}
 use Rattle.std.proofs.lemmas.List.{append-nil, take_at}
-use Rattle.ptb_expr.proofs.WithZeros.{all_put, front_put, front_zeros}
+use Rattle.ptb_expr.proofs.SavedValues.{all_put, front_put, front_zeros}
 use Rattle.ptb_expr.proofs.saved_store.put_front.Goals as goal
 
 pub zeros-init : goal.zeros-init

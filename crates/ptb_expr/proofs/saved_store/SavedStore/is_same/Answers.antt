@@ -5,7 +5,7 @@ use Rattle.std.proofs.lemmas.Bool.{true≢false}
 use Rattle.std.proofs.lemmas.Bool.Decides.{Decides-int_eq}
 use Rattle.std.proofs.lemmas.Slice.Eq.{slice_eq-Decides}
 use Rattle.ptb_expr.specs.Store.{Cells}
-use Rattle.ptb_expr.proofs.WithZeros.{same_elements, same_saved}
+use Rattle.ptb_expr.proofs.SavedValues.{same_elements, same_saved}
 use Rattle.ptb_expr.proofs.saved_store.SavedStore.is_same.Goals as goal
 
 pub returns-then-eq : goal.returns-then-eq

@@ -13,12 +13,12 @@ returns-in-Some-index_after_first-clause-done c p e code form =
 pub returns-in_default-index_after_first-clause-done : goal.returns-in_default-index_after_first-clause-done
 returns-in_default-index_after_first-clause-done c p e code form =
     let table = c.args.self.now in
-    held_reaches p table e c.args.registers.now c.return_shortly.new.registers c.go_to.new.registers _ c.in-Some.back _
-    c.go_to.ensures.registers c.go_to.ensures.place (c.go_to.ensures.next p code)
+    held_reaches p table e c.args.registers.now c.return_shortly.new.registers c.follow_place.new.registers _
+    c.in-Some.back _ c.follow_place.ensures.registers c.follow_place.ensures.place (c.follow_place.ensures.next p code)
     (c.in-Some.ensures.done p e.statement (code_from table e) form)
 
 pub returns-in-Some-index_after_first-clause-known : goal.returns-in-Some-index_after_first-clause-known
 returns-in-Some-index_after_first-clause-known c = c.forget.ensures c.return_shortly.new.registers.stack
 
 pub returns-in_default-index_after_first-clause-known : goal.returns-in_default-index_after_first-clause-known
-returns-in_default-index_after_first-clause-known c = c.forget.ensures c.go_to.new.registers.stack
+returns-in_default-index_after_first-clause-known c = c.forget.ensures c.follow_place.new.registers.stack
