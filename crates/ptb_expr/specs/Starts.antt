@@ -9,7 +9,7 @@
 --     start_room start                     how much room is needed for it
 use Rattle.std.specs.Prelude.{ℕ, List, ◌++◌}
 use Rattle.ptb_expr.specs.declared.operator.ProductSign.{ProductSign}
-use Rattle.ptb_expr.specs.declared.operator.ProductSign.TheVariants as befores
+use Rattle.ptb_expr.specs.declared.operator.ProductSign.TheVariants as signs
 use Rattle.ptb_expr.specs.declared.operator.Operator.{Operator}
 use Rattle.ptb_expr.specs.declared.operator.Operator.TheVariants as operators
 use Rattle.ptb_expr.specs.declared.step.Step.{Step}
@@ -30,33 +30,33 @@ IsBefore t unary inner outer i j =
 
 -- the first product has no operator before it, and each later one has
 abbrev pub IsFirst : ProductSign → Type 0
-IsFirst befores.Nothing = Unit {0}
-IsFirst befores.Sign = Unit {0}
+IsFirst signs.Nothing = Unit {0}
+IsFirst signs.Sign = Unit {0}
 IsFirst _ = ⊥
 
 abbrev pub IsLater : ProductSign → Type 0
-IsLater befores.Plus = Unit {0}
-IsLater befores.Minus = Unit {0}
+IsLater signs.Plus = Unit {0}
+IsLater signs.Minus = Unit {0}
 IsLater _ = ⊥
 
 -- what is done with the first product
 abbrev pub sign_of : ProductSign → Unary
-sign_of befores.Sign = Minus
+sign_of signs.Sign = Minus
 sign_of _ = Itself
 
 -- the operator before a later one
 abbrev pub operator_of : ProductSign → Operator
-operator_of befores.Minus = operators.Minus
+operator_of signs.Minus = operators.Minus
 operator_of _ = operators.Plus
 
 abbrev pub with_before : ProductSign → ℕ → List Step → List Step
-with_before befores.Plus m xs = with_operator operators.Plus m xs
-with_before befores.Minus m xs = with_operator operators.Minus m xs
-with_before befores.Nothing m xs = xs
-with_before befores.Sign m xs = xs ++ unary_steps Minus m
+with_before signs.Plus m xs = with_operator operators.Plus m xs
+with_before signs.Minus m xs = with_operator operators.Minus m xs
+with_before signs.Nothing m xs = xs
+with_before signs.Sign m xs = xs ++ unary_steps Minus m
 
 abbrev pub room_before : ProductSign → ℕ
-room_before befores.Nothing = 0
+room_before signs.Nothing = 0
 room_before _ = 1
 
 abbrev pub BeginsFactor : List ℕ → Start → ℕ → ℕ → Type 0
