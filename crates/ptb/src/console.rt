@@ -63,7 +63,11 @@ pub type InputLines<'a, R> = Device<Watched<'a, Keyboard<'a, <R as Input>::Reade
 pub type ProgramText<'a, R> = Device<Watched<'a, Source<<R as Files>::File, <R as Input>::Reader>>>;
 
 /// What a request writes to.
-pub type Output<'a, R> = Progressing<'a, R, FlushingWriter<TerminalWriter<'a, Printer<'a, R>>>>;
+pub type ReplyWriter<'a, R> = Progressing<
+    'a,
+    R,
+    FlushingWriter<TerminalWriter<'a, Printer<'a, R>>>,
+>;
 
 impl<'a, R: Runtime> Console<'a, R> {
     /// The console of a runtime.
@@ -116,7 +120,7 @@ impl<'a, R: Runtime> Console<'a, R> {
     }
 
     /// Standard output.
-    pub fn output(&self) -> Output<'a, R> {
+    pub fn output(&self) -> ReplyWriter<'a, R> {
         let screen = TerminalWriter::new(io::writer(self.rt), self.typed(), &self.events.fresh);
         Progressing::new(FlushingWriter::new(screen), self.progress_line())
     }

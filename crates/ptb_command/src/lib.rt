@@ -1,8 +1,8 @@
 //! The commands of Tiny BASIC: how they are read, and what they do. A command is read once into code
 //! (`translation.rt`, `operation.rt`, `command_code.rt`). The places at which the commands of a program
-//! begin are found in its text (`statement_places.rt`, `command_finder.rt`). The code of a command is executed
-//! (`execution.rt`): it changes the store, the loops and calls that are open (`stack.rt`), and the
-//! place, and it shows, takes and asks.
+//! begin are found in its text (`statement_places.rt`, `command_finder.rt`). The code of a command is
+//! executed (`execution.rt`): it changes the store, the loops and calls that are open (`stack.rt`), and
+//! the place, and it shows, takes and asks.
 //!
 //! It depends on `ptb_devices`, `ptb_expr`, `ptb_answers`, `ptb_text`, `arrayvec` and `itoa`. The crate
 //! above may rely on `translate` (the code is that of the parts that `specs/Commands` reads), on
