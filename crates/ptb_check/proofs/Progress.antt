@@ -36,7 +36,7 @@ pub record IsWrittenUpTo (old now : Option (List ℕ)) (any : Bool) (all rest : 
   pub done : List Mistake
   pub split : all ≡ done ++ rest
   pub bytes : Appends old now (texts done)
-  pub told : any ≡ has_any done
+  pub any_is : any ≡ has_any done
 
 pub more_written : {a b : Option (List ℕ)} {any : Bool} {all rest : List Mistake} (c : Option (List ℕ)) (some : Bool)
     (due others : List Mistake)
@@ -48,8 +48,8 @@ more_written {a} {b} {any} {all} {rest} c some due others parts before now = rec
   bytes =
       subst (Appends a c) (sym (flat_map-append mistake_text before.done due))
       (Appends-trans a b c (texts before.done) (texts due) before.bytes now.ok);
-  told =
-      or_swap some any ∙ ap (λ x. x || some) before.told ∙ ap (λ x. has_any before.done || x) now.any
+  any_is =
+      or_swap some any ∙ ap (λ x. x || some) before.any_is ∙ ap (λ x. has_any before.done || x) now.any
       ∙ sym (has_any-append before.done due);
 }
 
@@ -59,7 +59,7 @@ all_written {a} {b} {any} {all} {rest} none before =
     let whole : all ≡ before.done = before.split ∙ ap (λ r. before.done ++ r) none ∙ append-nil before.done in
     record {
       ok = subst (λ ms. Appends a b (texts ms)) (sym whole) before.bytes;
-      any = before.told ∙ ap has_any (sym whole);
+      any = before.any_is ∙ ap has_any (sym whole);
       fault = tt;
     }
 

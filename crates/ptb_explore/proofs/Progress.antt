@@ -57,7 +57,7 @@ pub record ListingProgress {A W : Type 0} (play : Answers → Outcome A W) (most
     (n : ℕ) : Type 0 where
   pub done : List Answers
   pub split : list ≡ done ++ runs_left play most under front remaining
-  pub told : Appends old new (text report done)
+  pub written : Appends old new (text report done)
   pub front_is : front ≡ front_after start done
   pub count : n ≡ count_of done
 
@@ -77,8 +77,8 @@ module _ {A W : Type 0} (play : Answers → Outcome A W) (most : ℕ) (reads : I
       split = p.split ∙ ap (λ x. p.done ++ x) (left_more play most reads under front remaining a h next)
           ∙ sym (append_assoc p.done (a ∷ []) (runs_left play most under (At a) (less_one remaining)))
           ∙ ap (λ x. (p.done ++ a ∷ []) ++ runs_left play most under x (less_one remaining)) (sym e);
-      told = subst (Appends old new') (text_push p.done a)
-          (Appends-trans old new new' (text report p.done) (report a) p.told w);
+      written = subst (Appends old new') (text_push p.done a)
+          (Appends-trans old new new' (text report p.done) (report a) p.written w);
       front_is = e ∙ sym (after_push start p.done a);
       count = let l = length-append p.done (a ∷ []) in let k = p.count in omega (arith, l, k, c);
     }
@@ -89,7 +89,7 @@ module _ {A W : Type 0} (play : Answers → Outcome A W) (most : ℕ) (reads : I
     progress_whole front new n p =
         let e : list ≡ p.done = p.split ∙ append-nil p.done in
         record {
-          bytes = subst (λ x. Appends old new (text report x)) (sym e) p.told;
+          bytes = subst (λ x. Appends old new (text report x)) (sym e) p.written;
           count = p.count ∙ ap count_of (sym e);
           front = inl (p.front_is ∙ ap (front_after start) (sym e));
         }
@@ -102,7 +102,7 @@ module _ {A W : Type 0} (play : Answers → Outcome A W) (most : ℕ) (reads : I
         ∙ append-nil p.done in
         let s : front ≡ front_after start list = p.front_is ∙ ap (front_after start) (sym e) in
         record {
-          bytes = subst (λ x. Appends old new (text report x)) (sym e) p.told;
+          bytes = subst (λ x. Appends old new (text report x)) (sym e) p.written;
           count = p.count ∙ ap count_of (sym e);
           front = inr (refl, rw s at last);
         }
@@ -117,7 +117,7 @@ module _ {A W : Type 0} (play : Answers → Outcome A W) (most : ℕ) (reads : I
           rest = runs_left play most under front remaining;
           split = p.split;
           some_left = left_some play most reads under front remaining h more;
-          bytes = p.told;
+          bytes = p.written;
           count = p.count;
           front = p.front_is;
         }
@@ -134,7 +134,7 @@ module _ {A W : Type 0} (play : Answers → Outcome A W) (most : ℕ) (reads : I
       part = take part.0 (report a);
       remainder = drop part.0 (report a);
       cut = sym (take-append-drop part.0 (report a));
-      bytes = Appends-trans old new new' (text report p.done) (take part.0 (report a)) p.told part.2;
+      bytes = Appends-trans old new new' (text report p.done) (take part.0 (report a)) p.written part.2;
       count = p.count;
       front = refl;
     }

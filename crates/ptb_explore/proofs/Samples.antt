@@ -102,7 +102,7 @@ pub record Sampled {A W : Type 0} (play : Answers → Outcome A W) (most : ℕ) 
     → List ℕ) (first : Lcg) (runs : ℕ) (g : Lcg) (remaining : ℕ) (old new : Option (List ℕ)) : Type 0 where
   pub done : List Answers
   pub split : sampled_runs most play first runs ≡ done ++ sampled_runs most play g remaining
-  pub told : Appends old new (text report done)
+  pub written : Appends old new (text report done)
   pub count : length done + remaining ≡ runs
 
 module _ {A W : Type 0} (play : Answers → Outcome A W) (most : ℕ) (report : Answers
@@ -124,8 +124,8 @@ module _ {A W : Type 0} (play : Answers → Outcome A W) (most : ℕ) (report : 
       split = p.split ∙ sym
           (append_assoc p.done (next_run ∷ []) (sampled_runs most play (generator_after g (length next_run)) remaining))
           ∙ ap (λ (x : Lcg). (p.done ++ next_run ∷ []) ++ sampled_runs most play x remaining) (sym after);
-      told = subst (Appends old new') (text_push p.done next_run)
-          (Appends-trans old new new' (text report p.done) (report next_run) p.told w);
+      written = subst (Appends old new') (text_push p.done next_run)
+          (Appends-trans old new new' (text report p.done) (report next_run) p.written w);
       count = let l = length-append p.done (next_run ∷ []) in let k = p.count in omega (arith, l, k);
     }
 
@@ -140,7 +140,7 @@ module _ {A W : Type 0} (play : Answers → Outcome A W) (most : ℕ) (report : 
       rest = sampled_runs most play g remaining;
       split = p.split;
       some_left = some_left remaining more;
-      bytes = p.told;
+      bytes = p.written;
       count = let k = p.count in omega (arith, is, k);
     }
 
@@ -156,7 +156,7 @@ module _ {A W : Type 0} (play : Answers → Outcome A W) (most : ℕ) (report : 
       part = take part.0 (report next_run);
       remainder = drop part.0 (report next_run);
       cut = sym (take-append-drop part.0 (report next_run));
-      bytes = Appends-trans old new new' (text report p.done) (take part.0 (report next_run)) p.told part.2;
+      bytes = Appends-trans old new new' (text report p.done) (take part.0 (report next_run)) p.written part.2;
       count = let k = p.count in omega (arith, is, k);
     }
 

@@ -115,11 +115,11 @@ run_then p rules m n o d e input left rest g h s = record {
 -- ---- plays
 
 -- as it is reported
-abbrev pub told : Outcome Last State → Outcome Finish (List ℕ)
-told u = map_outcome (λ f. f) (λ (T : State). T.shown) (map_outcome finish_of (λ (T : State). T) u)
+abbrev pub as_played : Outcome Last State → Outcome Finish (List ℕ)
+as_played u = map_outcome (λ f. f) (λ (T : State). T.shown) (map_outcome finish_of (λ (T : State). T) u)
 
 abbrev pub playing : (State → Answers → Outcome Last State) → State → Answers → Outcome Finish (List ℕ)
-playing g S a = told (g S a)
+playing g S a = as_played (g S a)
 
 plays_to : (p : StoredProgram) (rules : Rules) (m : Configuration) (o d : Devices) (input rest : List (List ℕ))
     (g : State → Answers → Outcome Last State) (h : RunsTo p rules m o input rest d g)
@@ -127,7 +127,7 @@ plays_to : (p : StoredProgram) (rules : Rules) (m : Configuration) (o d : Device
 unfolding play turns
 plays_to p rules m o d input rest g h = record {
   exchanges = h.exchanges;
-  leaves = leaves_under told (λ (T : State). T.shown) (λ k T. refl) h.leads.leaves;
+  leaves = leaves_under as_played (λ (T : State). T.shown) (λ k T. refl) h.leads.leaves;
 }
 
 plays_as : (p : StoredProgram) (rules : Rules) (input : List (List ℕ)) (o d : Devices) (x : Exchange)
@@ -153,7 +153,7 @@ run_ends : (refused : Refusal → Type 0) (p : StoredProgram) (rules : Rules) (m
 run_ends refused p rules m o d input rest ending g h k e = record {
   exchange = h.exchange;
   steps = h.leads.state.steps;
-  plays = plays_as p rules input o d h.exchange _ _ (fun_ext (λ a. ap told (e a) ∙ ap (λ (s : List ℕ). Done
+  plays = plays_as p rules input o d h.exchange _ _ (fun_ext (λ a. ap as_played (e a) ∙ ap (λ (s : List ℕ). Done
       (record { ending = ending; steps = h.leads.state.steps; shown = s }) a) h.leads.shown))
       (plays_to p rules m o d input rest g h);
   within_limit = subst (λ (T : State). T.steps ≤ rules.limit) (ap last_state (leaves_at h.leads.leaves [] ∙ e []))
@@ -178,7 +178,7 @@ refused_state bound T pauses.Ended = refl
 refused_state bound T (pauses.OutOfRange k) = refl
 refused_state bound T pauses.Memory = refl
 
-played_shown : (u : Outcome Last State) → played_bytes (told u) ≡ (last_state u).shown
+played_shown : (u : Outcome Last State) → played_bytes (as_played u) ≡ (last_state u).shown
 played_shown (Done l rest) = refl
 played_shown (Asks k S) = refl
 played_shown (Out k S) = refl
@@ -196,7 +196,8 @@ run_waits refused p rules m o d input rest z k w =
       plays = plays_to p rules m o d input rest w.left w.comes;
       bound = w.bound;
       question = subst (λ (s : List ℕ). AsksNext (playing w.left T) w.bound s z) w.comes.leads.shown
-          (asks_before told (λ (S : State). S.shown) (λ k S. refl) (λ k S. refl) (w.left T) w.bound T z (w.question T));
+          (asks_before as_played (λ (S : State). S.shown) (λ k S. refl) (λ k S. refl) (w.left T) w.bound T z
+          (w.question T));
       refuses = w.refuses;
       lines = λ later. lines_are p rules m o d input rest w.left w.comes k (refused_by_pause z later)
           (ap (λ u. (last_state u).lines) (refused_at (w.left T) w.bound T z later (w.question T))
@@ -381,7 +382,7 @@ module _ (refused : Refusal → Type 0) (p : StoredProgram) (rules : Rules) (m n
           (playing (then_turns p rules.limit w.left) run_so.leads.state)
       lacks None high dry = ends_dry w.left unread
           (λ a. subst (λ (T : State). w.left T a ≡ Done (Over endings.NoInput T) a) (sym same_state) (dry a))
-      lacks (Some k) high asks = ap (λ u. told (go_on u (after_turn (all_turns p rules.limit)))) (asks high)
+      lacks (Some k) high asks = ap (λ u. as_played (go_on u (after_turn (all_turns p rules.limit)))) (asks high)
           ∙ ap (λ (s : List ℕ). Asks k s) shown_so
 
       unread_dry : rest ≡ []
