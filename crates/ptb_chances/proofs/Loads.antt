@@ -10,7 +10,7 @@ use Rattle.ptb_answers.specs.declared.rules.Rules.{Rules}
 use Rattle.ptb_machine.specs.Questions.{most_answers}
 use Rattle.ptb_command.specs.Configuration.{Configuration}
 use Rattle.ptb_chances.specs.WaitingPlays.{Standing, Takes, SamePlace, Puts, PutsAnswers, after_answer}
-use Rattle.ptb_chances.specs.WaitingPlays.{load, load_of, power, room}
+use Rattle.ptb_chances.specs.WaitingPlays.{load, load_of, power, depth_left}
 
 pub power_positive : (n : ℕ) → 1 ≤ power n
 power_positive zero = omega arith
@@ -45,10 +45,10 @@ module _ (limit most : ℕ) where
       ∙ ap (λ ws. load_of limit most w + load limit most ws) (sym t.new_is)
 
   pub load_some : (w : Standing) (ws : List Standing) → load limit most ws < load limit most (w ∷ ws)
-  load_some w ws = let some = power_positive (room limit most w) in omega (arith, some)
+  load_some w ws = let some = power_positive (depth_left limit most w) in omega (arith, some)
 
-  same_room : (v u : Standing) → SamePlace v u → room limit most v ≡ room limit most u
-  same_room v u same = ap (λ (m : Configuration). (limit - m.steps) * (most + 1) + (most - length v.plan)) same.machine
+  same_depth : (v u : Standing) → SamePlace v u → depth_left limit most v ≡ depth_left limit most u
+  same_depth v u same = ap (λ (m : Configuration). (limit - m.steps) * (most + 1) + (most - length v.plan)) same.machine
       ∙ ap (λ (plan : Answers). (limit - u.machine.steps) * (most + 1) + (most - length plan)) same.plan
 
   pub load_put : (old new : List Standing) (w : Standing) → Puts old w new
@@ -58,13 +58,13 @@ module _ (limit most : ℕ) where
       let before = load_taken old x.rest x.other x.before in
       let after = load_taken new x.rest x.both x.after in
       let same : load_of limit most x.other ≡ load_of limit most x.both =
-      ap power (same_room x.other x.both (x.joined).first) in
+      ap power (same_depth x.other x.both (x.joined).first) in
       omega (arith, before, after, same)
 
   -- fewer commands are left
-  pub room_less : (v w : Standing) → limit - v.machine.steps < limit - w.machine.steps
-      → room limit most v < room limit most w
-  room_less v w less =
+  pub depth_less : (v w : Standing) → limit - v.machine.steps < limit - w.machine.steps
+      → depth_left limit most v < depth_left limit most w
+  depth_less v w less =
       let fewer : (limit - v.machine.steps + 1) * (most + 1) ≤ (limit - w.machine.steps) * (most + 1) =
       mul-le (limit - v.machine.steps + 1) (most + 1) (limit - w.machine.steps) (most + 1) (omega (arith, less))
       (omega arith) in
@@ -77,18 +77,18 @@ module _ (limit most : ℕ) where
       → limit - v.machine.steps < limit - w.machine.steps → load limit most new < load limit most (w ∷ old)
   load_gone old new w v puts less =
       let put = load_put old new v puts in
-      let below = power_less (room limit most v) (room limit most w) (room_less v w less) in
+      let below = power_less (depth_left limit most v) (depth_left limit most w) (depth_less v w less) in
       omega (arith, put, below)
 
   -- plays asked
   module _ (w : Standing) (n : ℤ) (planned : length w.plan < most) where
-    room_after : (k : ℤ) → room limit most w ≡ suc (room limit most (after_answer w n k))
-    room_after k =
+    depth_after : (k : ℤ) → depth_left limit most w ≡ suc (depth_left limit most (after_answer w n k))
+    depth_after k =
         let longer : length (w.plan ++ k ∷ []) ≡ length w.plan + 1 = length-append w.plan (k ∷ []) in
         omega (arith, longer, planned)
 
     load_after : (k : ℤ) → load_of limit most w ≡ 65536 * load_of limit most (after_answer w n k)
-    load_after k = ap power (room_after k)
+    load_after k = ap power (depth_after k)
 
     load_answers : (k : ℕ) (old new : List Standing) → PutsAnswers w n k old new
         → 65536 * load limit most new ≡ k * load_of limit most w + 65536 * load limit most old
@@ -103,7 +103,7 @@ module _ (limit most : ℕ) where
         → load limit most new < load limit most (w ∷ old)
     load_asked k old new few puts =
         let all = load_answers k old new puts in
-        let some = power_positive (room limit most w) in
+        let some = power_positive (depth_left limit most w) in
         let part : (k + 1) * load_of limit most w ≤ 65536 * load_of limit most w =
         mul-le (k + 1) (load_of limit most w) 65536 (load_of limit most w) (omega (arith, few)) (omega arith) in
         let split : (k + 1) * load_of limit most w ≡ k * load_of limit most w + load_of limit most w = omega arith in

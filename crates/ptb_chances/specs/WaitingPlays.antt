@@ -177,8 +177,8 @@ PutsAnswers w n (suc k) old new = (mid : List Standing) × PutsAnswers w n k old
 -- ---- how much is left
 
 -- with each answer, and with each command, it is less
-abbrev pub room : ℕ → ℕ → Standing → ℕ
-room limit most w = (limit - w.machine.steps) * (most + 1) + (most - length w.plan)
+abbrev pub depth_left : ℕ → ℕ → Standing → ℕ
+depth_left limit most w = (limit - w.machine.steps) * (most + 1) + (most - length w.plan)
 
 -- a question has fewer answers than 65536
 abbrev pub power : ℕ → ℕ
@@ -186,7 +186,7 @@ power zero = 1
 power (suc n) = 65536 * power n
 
 abbrev pub load_of : ℕ → ℕ → Standing → ℕ
-load_of limit most w = power (room limit most w)
+load_of limit most w = power (depth_left limit most w)
 
 abbrev pub load : ℕ → ℕ → List Standing → ℕ
 load limit most [] = 0
