@@ -1,11 +1,11 @@
 -- This file proves what was written of a report or of a list, from what is known of each of its pieces.
--- Main lemmas: `all_written` and `rest_fails`.
+-- Main lemmas: `all_written` and `answers_gathered`.
 use Rattle.std.proofs.Common.{◌≡◌, ◌∙◌, ap, subst, ℕ, List, [], ◌++◌, length, codes, decimal, Option, Result, Ok, Err}
-use Rattle.std.specs.Result.{OnOk, OnErr}
-use Rattle.std.proofs.lemmas.Result.{on_ok_weaker, on_err_weaker}
-use Rattle.std.specs.Io.KnownBytes.{Appends}
-use Rattle.ptb_text.specs.Device.{Gathers, TakesSome, HasFailed}
-use Rattle.ptb_text.proofs.PublicLemmas.{all_more, gathers_more, gathers_same, some_more, some_after}
+use Rattle.std.specs.Result.{OnErr}
+use Rattle.ptb_text.specs.declared.device_fault.DeviceFault.{DeviceFault}
+use Rattle.ptb_text.specs.Device.{Gathers, TakesSome}
+use Rattle.ptb_text.specs.Streams.{WritesText}
+use Rattle.ptb_text.proofs.PublicLemmas.{gathers_more, gathers_same, some_more, some_after, text_more, text_same}
 use Rattle.ptb_answers.specs.AnswerText.{spelling}
 use Rattle.ptb_answers.specs.declared.form.Marked.{Marked}
 use Rattle.ptb_explore.specs.ReportText.{list_line, report_text}
@@ -15,10 +15,6 @@ use Rattle.ptb_explore.proofs.ReportText.{after_answers, report_in_pieces}
 pub on_err_always : {T E Q : Type 0} (r : Result T E) → Q → OnErr r Q
 on_err_always (Ok x) q = tt
 on_err_always (Err e) q = q
-
--- a fault after calls that counted none
-pub failed_after : (a b c : ℕ) → b ≡ a → HasFailed b c → HasFailed a c
-failed_after a b c same h = subst (λ (n : ℕ). HasFailed n c) same h
 
 -- The device held a before; `none` is what was pending then, and p and q are what is pending after RUN and after the
 -- answers.
@@ -56,24 +52,16 @@ module _ (items : List Marked) (word : List ℕ) (steps : ℕ) (shown : List ℕ
           ap (λ (z : List ℕ). q ++ after_answers word z sized shown) count
           ∙ ap (λ (z : List ℕ). q ++ after_answers word (decimal steps) z shown) size
 
-      -- what a device takes of the last pieces, it takes of the report
-      of_pieces : (Takes : Option (List ℕ) → Option (List ℕ) → List ℕ → Type 0)
-          → ((b c : Option (List ℕ)) (s p x : List ℕ) → Gathers a b s p → Takes b c (p ++ x) → Takes a c (s ++ x))
-          → (d : Option (List ℕ)) → Takes c d (q ++ after_answers word counted sized shown)
-          → Takes a d (report_text items word steps shown)
-      of_pieces Takes more d t =
-          subst (Takes a d) (report_in_pieces items word steps shown)
-          (more c d (codes "RUN " ++ spelling items) q following listed (subst (Takes c d) same_after t))
-
-      pub all_written : (d : Option (List ℕ)) {T E : Type 0} (result : Result T E)
-          → OnOk result (Appends c d (q ++ after_answers word counted sized shown))
-          → OnOk result (Appends a d (report_text items word steps shown))
-      all_written d result h = on_ok_weaker result (of_pieces Appends (all_more a) d) h
-
-      pub rest_fails : (d : Option (List ℕ)) {T E : Type 0} (result : Result T E)
-          → OnErr result (TakesSome c d (q ++ after_answers word counted sized shown))
-          → OnErr result (TakesSome a d (report_text items word steps shown))
-      rest_fails d result h = on_err_weaker result (of_pieces TakesSome (some_after a) d) h
+      -- what is written after the answers completes the report
+      pub all_written : {T : Type 0} (d : Option (List ℕ)) (i j k : ℕ) → j ≡ i → (result : Result T DeviceFault)
+          → WritesText (record { before = c; after = d; failed = j; fails = k })
+          (q ++ after_answers word counted sized shown) result
+          → WritesText (record { before = a; after = d; failed = i; fails = k })
+          (report_text items word steps shown) result
+      all_written d i j k same result w =
+          text_same _ _ _ result (report_in_pieces items word steps shown)
+          (text_more a c d i j k same result (codes "RUN " ++ spelling items) q following listed
+          (text_same _ _ _ result same_after w))
 
 -- ---- a list of answers
 
@@ -85,15 +73,5 @@ module _ (items : List Marked) (a : Option (List ℕ)) (none : List ℕ) (is : n
       (subst (λ (z : List ℕ). TakesSome a b (z ++ spelling items)) is t)
 
   module _ (b : Option (List ℕ)) (p : List ℕ) (first : Gathers a b (none ++ spelling items) p) where
-    answers_gathered : Gathers a b (spelling items) p
+    pub answers_gathered : Gathers a b (spelling items) p
     answers_gathered = gathers_same (ap (λ (z : List ℕ). z ++ spelling items) is) first
-
-    pub line_written : (c : Option (List ℕ)) {T E : Type 0} (result : Result T E)
-        → OnOk result (Appends b c (p ++ codes "\n")) → OnOk result (Appends a c (list_line items))
-    line_written c result h =
-        on_ok_weaker result (λ t. all_more a b c (spelling items) p (codes "\n") answers_gathered t) h
-
-    pub line_fails : (c : Option (List ℕ)) {T E : Type 0} (result : Result T E)
-        → OnErr result (TakesSome b c (p ++ codes "\n")) → OnErr result (TakesSome a c (list_line items))
-    line_fails c result h =
-        on_err_weaker result (λ t. some_after a b c (spelling items) p (codes "\n") answers_gathered t) h

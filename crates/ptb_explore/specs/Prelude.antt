@@ -12,6 +12,7 @@ pub use Rattle.ptb_machine.specs.Questions.{most_answers}
 pub use Rattle.ptb_machine.specs.Beginnings.{IsAtFirst}
 pub use Rattle.ptb_text.specs.Device.{HasFailed, TakesSome}
 pub use Rattle.ptb_text.specs.Statements.{StoredProgram}
+pub use Rattle.ptb_text.specs.Streams.{WritesText, writes_of}
 pub use Rattle.ptb_explore.specs.Beginnings.{beginning_line, split_play, stopped, FindsBeginning, IsSameSearch, MovesTo}
 pub use Rattle.ptb_explore.specs.Beginnings.{BeginningLaws}
 pub use Rattle.ptb_explore.specs.ReportHeaders.{begun, marked_of, marked_items, AreEnds, BeginsWith}
@@ -32,6 +33,5 @@ pub use Rattle.ptb_explore.specs.Recorders.{recorded, recorder_choices}
 pub use Rattle.ptb_explore.specs.Report.{report}
 pub use Rattle.ptb_explore.specs.ReportText.{asked_items, list_line, report_ending, report_text, text_of_report}
 pub use Rattle.ptb_machine.specs.EndingWords.{ending_word, field}
-pub use Rattle.ptb_explore.specs.ReportText.{WritesText}
 pub use Rattle.ptb_machine.specs.RunTree.{At, IsLast, Start, runs_left, tree, IsNextRun, IsRun, begins_with}
 pub use Rattle.ptb_explore.specs.Samples.{SampleLaws, PlaysDrawn, WritesRun, WritesSample}

@@ -6,12 +6,7 @@
 --     text_of_report report                          the same of what a report has
 --     list_line items                         a list of answers, and a newline
 --     report_ending word steps shown          what a report has after its answers
---     WritesText text old new before after result     the text was written, or a prefix of it where the writer failed
-use Rattle.std.specs.Prelude.{◌≡◌, ℕ, List, ◌++◌, length, codes, decimal, Option, Result, IfErr, OnErr, OnOk}
-use Rattle.std.specs.Io.KnownBytes.{Appends}
-use Rattle.ptb_text.specs.Device.{HasFailed, TakesSome}
-use Rattle.ptb_text.specs.declared.device_fault.DeviceFault.{DeviceFault}
-use Rattle.ptb_text.specs.declared.device_fault.DeviceFault.TheVariants.{Write}
+use Rattle.std.specs.Prelude.{ℕ, List, ◌++◌, length, codes, decimal}
 use Rattle.ptb_answers.specs.declared.asked.Asked.{Asked}
 use Rattle.ptb_answers.specs.declared.form.Form.{Form}
 use Rattle.ptb_answers.specs.declared.form.Marked.{Marked}
@@ -19,8 +14,6 @@ use Rattle.ptb_answers.specs.AskedQuestions.{answers_in, bounds_in}
 use Rattle.ptb_answers.specs.AnswerText.{items_in, spelling}
 use Rattle.ptb_machine.specs.EndingWords.{field}
 use Rattle.ptb_explore.specs.declared.report_text.Parts.{Parts}
-
--- ---- text
 
 abbrev pub asked_items : Form → List Asked → List Marked
 asked_items form asked = items_in form (answers_in asked) (bounds_in asked)
@@ -42,14 +35,3 @@ report_ending word steps shown = field word ++ field (decimal steps) ++ field (d
 
 abbrev pub list_line : List Marked → List ℕ
 list_line items = spelling items ++ codes "\n"
-
--- ---- writing
-
--- the writer had failed so often before, and after
-pub record WritesText (text : List ℕ) (old new : Option (List ℕ)) (before after : ℕ)
-    (result : Result (Unit {0}) DeviceFault) : Type 0 where
-  pub ok : OnOk result (Appends old new text)
-  pub fault : OnErr result (TakesSome old new text)
-  pub failed : OnErr result (HasFailed before after)
-  pub kind : IfErr result (λ fault. fault ≡ Write)
-  pub unfailed : OnOk result (after ≡ before)

@@ -1,7 +1,7 @@
 // This file has the reports of runs.
 
 ghost use Rattle.std.specs.Prelude.{◌≡◌, []};
-ghost use Rattle.ptb_explore.specs.Prelude.{asked_items, ending_word, report_text, WritesText};
+ghost use Rattle.ptb_explore.specs.Prelude.{asked_items, ending_word, report_text, WritesText, writes_of};
 
 use crate::report_text::Parts;
 use crate::report_writer::ReportWriter;
@@ -47,10 +47,9 @@ impl Report {
         reports: &mut ReportWriter,
         writer: &mut W,
     ) -> Result<(), DeviceFault>
-        ensures { WritesText (report_text (asked_items form self.now.asked.items)
-            (ending_word self.now.ending) self.now.steps self.now.transcript.items)
-            (W.contents writer.old) (W.contents writer.new)
-            (W.failures writer.old) (W.failures writer.new) result }
+        ensures { WritesText (writes_of W.contents W.failures writer.old writer.new)
+            (report_text (asked_items form self.now.asked.items)
+            (ending_word self.now.ending) self.now.steps self.now.transcript.items) result }
     {
         let parts = Parts {
             form,

@@ -1,10 +1,9 @@
 // This file writes the report of a run, and lists of answers.
 
-ghost use Rattle.std.specs.Prelude.{◌≡◌, ◌==◌, [], ◌++◌, IfErr, OnOk, OnErr, codes, if◌then◌else◌};
-ghost use Rattle.ptb_text.specs.Device.{Gathers};
+ghost use Rattle.std.specs.Prelude.{◌≡◌, ◌==◌, [], ◌++◌, codes, if◌then◌else◌};
+ghost use Rattle.ptb_text.specs.Streams.{GathersText, WritesText, writes_of};
 ghost use Rattle.ptb_answers.specs.AnswerText.{spelling};
-ghost use Rattle.ptb_explore.specs.Prelude.{Appends, TakesSome, HasFailed, in_form, item_text};
-ghost use Rattle.ptb_explore.specs.Prelude.{asked_items, list_line, text_of_report, WritesText};
+ghost use Rattle.ptb_explore.specs.Prelude.{asked_items, in_form, item_text, list_line, text_of_report};
 
 use itoa::Buffer;
 use ptb_answers::{Asked, Form, Marked};
@@ -27,13 +26,8 @@ fn put_item<W: Write>(
     separator: &[u8],
     item: Marked,
 ) -> Result<(), DeviceFault>
-    ensures ok { OnOk result (Gathers (W.contents out.old) (W.contents out.new)
-        (pending.old ++ (separator.now ++ item_text item)) pending.new) }
-    ensures fault { OnErr result (TakesSome (W.contents out.old) (W.contents out.new)
-        (pending.old ++ (separator.now ++ item_text item))) }
-    ensures failed { OnErr result (HasFailed (W.failures out.old) (W.failures out.new)) }
-    ensures kind { IfErr result (λ fault. fault ≡ DeviceFault.Write) }
-    ensures unfailed { OnOk result (W.failures out.new ≡ W.failures out.old) }
+    ensures { GathersText (writes_of W.contents W.failures out.old out.new)
+        (pending.old ++ (separator.now ++ item_text item)) pending.new result }
 {
     let (mut answer, mut bound) = (Buffer::new(), Buffer::new());
     let answer = answer.format(item.answer).as_bytes();
@@ -69,14 +63,8 @@ fn put_answers<W: Write>(
     form: Form,
     asked: &[Asked],
 ) -> Result<(), DeviceFault>
-    ensures ok { OnOk result (Gathers (W.contents out.old) (W.contents out.new)
-        (pending.old ++ spelling (asked_items form asked.now))
-        pending.new) }
-    ensures fault { OnErr result (TakesSome (W.contents out.old) (W.contents out.new)
-        (pending.old ++ spelling (asked_items form asked.now))) }
-    ensures failed { OnErr result (HasFailed (W.failures out.old) (W.failures out.new)) }
-    ensures kind { IfErr result (λ fault. fault ≡ DeviceFault.Write) }
-    ensures unfailed { OnOk result (W.failures out.new ≡ W.failures out.old) }
+    ensures { GathersText (writes_of W.contents W.failures out.old out.new)
+        (pending.old ++ spelling (asked_items form asked.now)) pending.new result }
 {
     if asked.is_empty() {
         return pending.put(out, b"none");
@@ -107,8 +95,8 @@ pub struct Parts<'a> {
 // Not inlined, so that the code for short reports needs no room for pieces.
 #[inline(never)]
 pub(crate) fn write_in_pieces<W: Write>(out: &mut W, report: &Parts) -> Result<(), DeviceFault>
-    ensures { WritesText (text_of_report report.now) (W.contents out.old) (W.contents out.new)
-        (W.failures out.old) (W.failures out.new) result }
+    ensures { WritesText (writes_of W.contents W.failures out.old out.new)
+        (text_of_report report.now) result }
 {
     let mut pending = Pending::new();
     pending.put(out, b"RUN ")?;
@@ -140,13 +128,8 @@ pub(crate) fn write_in_pieces<W: Write>(out: &mut W, report: &Parts) -> Result<(
 ///
 /// [`DeviceFault::Write`] where the writer failed. A prefix of the line may have been taken then.
 pub fn write_list<W: Write>(out: &mut W, form: Form, asked: &[Asked]) -> Result<(), DeviceFault>
-    ensures ok { OnOk result (Appends (W.contents out.old) (W.contents out.new)
-        (list_line (asked_items form asked.now))) }
-    ensures fault { OnErr result (TakesSome (W.contents out.old) (W.contents out.new)
-        (list_line (asked_items form asked.now))) }
-    ensures failed { OnErr result (HasFailed (W.failures out.old) (W.failures out.new)) }
-    ensures kind { IfErr result (λ fault. fault ≡ DeviceFault.Write) }
-    ensures unfailed { OnOk result (W.failures out.new ≡ W.failures out.old) }
+    ensures { WritesText (writes_of W.contents W.failures out.old out.new)
+        (list_line (asked_items form asked.now)) result }
 {
     let mut pending = Pending::new();
     put_answers(out, &mut pending, form, asked)?;

@@ -1,8 +1,8 @@
 // This file has the writer of many reports, one after the other, which keeps the text of the last one.
 
 ghost use Rattle.std.specs.Prelude.{◌≡◌, ◌==◌, ◌+◌, ◌<◌, ◌≤◌, [], ◌∷◌, ◌++◌, length, take, codes, decimal};
-ghost use Rattle.std.specs.Prelude.{IfErr, OnOk, OnErr, IsTrue, IsFalse, if◌then◌else◌, ℤ, Option, None, Some};
-ghost use Rattle.ptb_explore.specs.Prelude.{signed_decimal, Appends, TakesSome, HasFailed, in_form, item_text};
+ghost use Rattle.std.specs.Prelude.{IsTrue, IsFalse, if◌then◌else◌, ℤ, Option, None, Some};
+ghost use Rattle.ptb_explore.specs.Prelude.{signed_decimal, in_form, item_text, WritesText, writes_of};
 ghost use Rattle.ptb_explore.specs.Prelude.{asked_items, field, report_ending, text_of_report, begun, marked_of};
 ghost use Rattle.ptb_explore.specs.Prelude.{marked_items, AreEnds, BeginsWith};
 
@@ -327,13 +327,8 @@ impl ReportWriter {
     /// [`DeviceFault::Write`] where the writer failed. A prefix of the report may have been taken then.
     #[inline(always)]
     pub fn write<W: Write>(&mut self, out: &mut W, report: &Parts) -> Result<(), DeviceFault>
-        ensures ok { OnOk result
-            (Appends (W.contents out.old) (W.contents out.new) (text_of_report report.now)) }
-        ensures fault { OnErr result
-            (TakesSome (W.contents out.old) (W.contents out.new) (text_of_report report.now)) }
-        ensures failed { OnErr result (HasFailed (W.failures out.old) (W.failures out.new)) }
-        ensures kind { IfErr result (λ fault. fault ≡ DeviceFault.Write) }
-        ensures unfailed { OnOk result (W.failures out.new ≡ W.failures out.old) }
+        ensures { WritesText (writes_of W.contents W.failures out.old out.new)
+            (text_of_report report.now) result }
     {
         if self.gather(report) {
             return out.write_all(self.text.as_slice());

@@ -1,9 +1,9 @@
 -- This file proves how bytes that are gathered and then taken add up. Crates that gather bytes cite it.
 -- Main lemmas: `gathers_more` and `all_more`.
-use Rattle.std.proofs.Common.{◌≡◌, ℕ, ◌+◌, ◌<◌, get_or, List, [], ◌∷◌, ◌++◌, length, take, drop}
+use Rattle.std.proofs.Common.{◌≡◌, ℕ, ◌+◌, ◌<◌, ◌≤◌, get_or, List, [], ◌∷◌, ◌++◌, length, take, drop}
 use Rattle.std.proofs.Common.{Option, refl, sym, ap, ◌∙◌, subst, append_assoc, append-nil, arith}
 use Rattle.std.proofs.Common.{length-append}
-use Rattle.std.proofs.lemmas.List.{take-append-drop, take-append-le, take_more}
+use Rattle.std.proofs.lemmas.List.{take-append-drop, take-append-le, take_all, take_more}
 use Rattle.std.proofs.lemmas.List.Concat.{flat_map-append}
 use Rattle.std.specs.List.{flat_map}
 use Rattle.std.proofs.Math.Seq.{take-length}
@@ -100,3 +100,9 @@ module _ {X : Type 0} (f : X → List ℕ) (xs : List X) (i : ℕ) (d : X) (with
       subst (TakesSome a c) pieces_more (some_after a b c (s ++ flat_map f (take i xs)) p x so_far t) in
       subst (TakesSome a c) pieces_all
       (some_more a c (s ++ flat_map f (take (i + 1) xs)) (flat_map f (drop (i + 1) xs)) upto)
+
+-- after the last of them
+pub gathers_pieces : {X : Type 0} (f : X → List ℕ) (xs : List X) (i : ℕ) (a b : Option (List ℕ)) (s q : List ℕ)
+    → length xs ≤ i → Gathers a b (s ++ flat_map f (take i xs)) q → Gathers a b (s ++ flat_map f xs) q
+gathers_pieces {X} f xs i a b s q over g =
+    subst (λ (z : List X). Gathers a b (s ++ flat_map f z) q) (take_all i xs over) g

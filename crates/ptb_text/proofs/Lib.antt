@@ -22,6 +22,7 @@ mod SoundPrograms
 mod StoredLines
 mod StoredTexts
 mod TakenPieces
+mod WrittenTexts
 mod ByteCounts
 mod LimitedReads
 mod NextByte

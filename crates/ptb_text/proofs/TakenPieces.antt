@@ -1,12 +1,11 @@
 -- This file proves how bytes that are taken in pieces add up to the bytes as a whole.
 -- Main lemmas: `piece_taken` and `gathers_all`.
 use Rattle.std.proofs.Common.{◌≡◌, ℕ, ◌+◌, ◌-◌, ◌<◌, ◌≤◌, List, [], ◌∷◌, ◌++◌, length, take, drop}
-use Rattle.std.proofs.Common.{Option, Result, Ok, Err, OnOk, OnErr, sym, ap, ◌∙◌}
+use Rattle.std.proofs.Common.{Option, sym, ap, ◌∙◌}
 use Rattle.std.proofs.Common.{subst, append_assoc, append-nil, arith, length-append, length-drop}
 use Rattle.std.proofs.Common.{length-take}
 use Rattle.std.proofs.Math.Seq.{take-append-add}
 use Rattle.std.proofs.lemmas.List.{take-append-drop, take-append-le, take_all}
-use Rattle.std.specs.Result.{IfErr, IsErrAnd}
 use Rattle.std.specs.Io.KnownBytes.{Appends}
 use Rattle.std.proofs.KnownBytes.{Appends-trans}
 use Rattle.ptb_text.specs.Device.{Gathers, TakesSome}
@@ -90,17 +89,3 @@ piece_fault {a} {b} {bytes} {rest} c piece others parts before now =
     let size : length rest ≡ length piece + length others = ap length parts ∙ length-append piece others in
     let front : take now.0 rest ≡ take now.0 piece = ap (take now.0) parts ∙ take-append-le now.0 piece others now.1 in
     gathers_fault c before (now.0, omega (arith, now.1), subst (Appends b c) (sym front) now.2)
-
--- what is said of a result that is an error
-pub OnOk-error : {T E : Type 0} (Q : E → Type 0) (P : Type 0) (r : Result T E) → IsErrAnd r Q → OnOk r P
-OnOk-error Q P (Ok x) is = absurd is
-OnOk-error Q P (Err e) is = tt
-
-pub OnErr-error : {T E : Type 0} (Q : E → Type 0) (P : Type 0) (r : Result T E) → IsErrAnd r Q → P → OnErr r P
-OnErr-error Q P (Ok x) is p = absurd is
-OnErr-error Q P (Err e) is p = p
-
--- a fault that is passed on keeps its kind
-pub IfErr-passed : {T E : Type 0} (Q : E → Type 0) (r : Result T E) (e : E) → IsErrAnd r (λ y. y ≡ e) → Q e → IfErr r Q
-IfErr-passed Q (Ok x) e is q = absurd is
-IfErr-passed Q (Err y) e is q = subst Q (sym is) q

@@ -1,17 +1,21 @@
 -- This file defines what contracts see of a reader and of a writer over a call.
 --     Reads R, reads_of ..        what was read: the reader before and after, its bytes, and its counts
 --     Writes, writes_of ..        what was written: the bytes that the writer has, and its count
+--     WritesText out text result  the text was written, or a prefix of it where the writer failed
+--     GathersText out text pending result     the same, and the last bytes of the text may wait
+--     WritesOrFails out text done result      this was done, or a prefix of the text was written and the writer failed
 --     ConsumesAtMost old new n    known bytes lose at most their first n
 --     DescribesRead result taken ..       what a read within a limit says of the bytes that it took
 --     ReadsWithin left now ..     a reader is read once, within what is left of a limit
 --     ReadsUpTo limit input ..    a reader is read to its end, within a limit
 use Rattle.std.specs.Prelude.{◌≡◌, ℕ, ◌+◌, ◌<◌, ◌≤◌, List, [], length, take, Option, IfSome}
-use Rattle.std.specs.Prelude.{Result, Ok, Err, IsErr, IsOk}
-use Rattle.std.specs.Io.KnownBytes.{Consumes, IsAtEnd}
+use Rattle.std.specs.Prelude.{Result, Ok, Err, IfErr, IsErr, IsOk, OnErr, OnOk}
+use Rattle.std.specs.Io.KnownBytes.{Appends, Consumes, IsAtEnd}
 use Rattle.ptb_text.specs.declared.device_fault.DeviceFault.{DeviceFault}
+use Rattle.ptb_text.specs.declared.device_fault.DeviceFault.TheVariants.{Write}
 use Rattle.ptb_text.specs.declared.allowance.Piece.{Piece}
 use Rattle.ptb_text.specs.declared.allowance.Piece.TheVariants.{End, Bytes, TooLong}
-use Rattle.ptb_text.specs.Device.{GivesAtMost, GivesExactly, HasFailed, IsCounted}
+use Rattle.ptb_text.specs.Device.{Gathers, GivesAtMost, GivesExactly, HasFailed, IsCounted, TakesSome}
 
 -- The counts of a reader and of a writer are those of all their calls.
 pub record Reads (R : Type 0) : Type 0 where
@@ -52,6 +56,24 @@ pub record Writes : Type 0 where
 abbrev pub writes_of : {W : Type 0} → (W → Option (List ℕ)) → (W → ℕ) → W → W → Writes
 writes_of contents failures old new =
     record { before = contents old; after = contents new; failed = failures old; fails = failures new }
+
+-- A call that writes a text has done this, or its writer failed and took a prefix of the text.
+pub record WritesOrFails {T : Type 0} (out : Writes) (text : List ℕ) (done : Type 0)
+    (result : Result T DeviceFault) : Type 0 where
+  pub ok : OnOk result done
+  pub fault : OnErr result (TakesSome out.before out.after text)
+  -- The writer is at fault where it failed, and only there.
+  pub failed : OnErr result (HasFailed out.failed out.fails)
+  pub kind : IfErr result (λ fault. fault ≡ Write)
+  pub unfailed : OnOk result (out.fails ≡ out.failed)
+
+-- all of it was written
+abbrev pub WritesText : {T : Type 0} → Writes → List ℕ → Result T DeviceFault → Type 0
+WritesText out text result = WritesOrFails out text (Appends out.before out.after text) result
+
+-- it was written up to these bytes, which wait
+abbrev pub GathersText : {T : Type 0} → Writes → (text pending : List ℕ) → Result T DeviceFault → Type 0
+GathersText out text pending result = WritesOrFails out text (Gathers out.before out.after text pending) result
 
 -- known bytes lose at most their first n
 abbrev pub ConsumesAtMost : Option (List ℕ) → Option (List ℕ) → ℕ → Type 0

@@ -1,11 +1,11 @@
 // This file has readers and writers, which count how often they have failed; readers count their
 // bytes, too.
 
-ghost use Rattle.std.specs.Prelude.{◌≡◌, ℕ, ◌<◌, ◌≤◌, List, length, take, Option, Some, IfOk, OnOk, ◌-◌, IfErr, IsOk};
-ghost use Rattle.std.specs.Prelude.{OnErr};
+ghost use Rattle.std.specs.Prelude.{◌≡◌, ℕ, ◌<◌, ◌≤◌, ◌-◌, List, length, take, Option, Some, IfOk, IfErr, IsOk, OnErr};
 ghost use Rattle.std.specs.Io.KnownBytes.{Keeps, Appends, ReadConsumes};
-ghost use Rattle.ptb_text.specs.Prelude.{CountsFaults, HasFailed, TakesSome, TakesSurely, CountsBytes, DeviceTakes};
-ghost use Rattle.ptb_text.specs.Prelude.{IsReliableDevice, device_inner, failure_count, given_count};
+ghost use Rattle.ptb_text.specs.Prelude.{CountsFaults, TakesSome, TakesSurely, CountsBytes, DeviceTakes};
+ghost use Rattle.ptb_text.specs.Prelude.{IsReliableDevice, WritesText, device_inner, failure_count, given_count};
+ghost use Rattle.ptb_text.specs.Prelude.{writes_of};
 
 use crate::byte_streams::{ByteSink, ByteSource};
 use crate::device_fault::DeviceFault;
@@ -81,11 +81,7 @@ pub trait Write {
     /// [`DeviceFault::Write`] where one of the writes failed. A prefix of the bytes may have been taken
     /// then.
     final fn write_all(&mut self, bytes: &[u8]) -> Result<(), DeviceFault>
-        ensures ok { OnOk result (Appends (contents self.old) (contents self.new) bytes.now) }
-        ensures fault { OnErr result (TakesSome (contents self.old) (contents self.new) bytes.now) }
-        ensures failed { OnErr result (HasFailed (failures self.old) (failures self.new)) }
-        ensures kind { IfErr result (λ fault. fault ≡ DeviceFault.Write) }
-        ensures unfailed { OnOk result (failures self.new ≡ failures self.old) }
+        ensures writes { WritesText (writes_of contents failures self.old self.new) bytes.now result }
         ensures later { failures self.old ≤ failures self.new }
         ensures sure { (k : ℕ) → length bytes.now ≤ k → takes self.old k
             → IsOk result × takes self.new (k - length bytes.now) }

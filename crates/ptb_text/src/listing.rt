@@ -1,10 +1,9 @@
 // This file writes a program as text.
 
-ghost use Rattle.std.specs.Prelude.{◌≡◌, ◌≤◌, ℕ, [], IfErr, IsTrue, OnErr, OnOk};
-ghost use Rattle.std.specs.Io.KnownBytes.{Appends};
-ghost use Rattle.ptb_text.specs.Device.{HasFailed, TakesSome};
-ghost use Rattle.ptb_text.specs.ProgramTexts.{GivesProgram};
+ghost use Rattle.std.specs.Prelude.{◌≡◌, ◌≤◌, ℕ, [], IsTrue, OnOk};
+ghost use Rattle.ptb_text.specs.Loading.{GivesProgram};
 ghost use Rattle.ptb_text.specs.Statements.{Statements, cost, is_program, line_of, listing};
+ghost use Rattle.ptb_text.specs.Streams.{WritesText, writes_of};
 
 use crate::{DeviceFault, OutputBuffer, Program, Write};
 use itoa::Buffer;
@@ -21,13 +20,8 @@ const LINE_ROOM: usize = 262;
 ///
 /// [`DeviceFault::Write`] where the writer failed. A prefix of the listing was written then.
 pub fn list<W: Write>(program: &Program, writer: &mut W) -> Result<(), DeviceFault>
-    ensures ok { OnOk result
-        (Appends (W.contents writer.old) (W.contents writer.new) (listing program.now.lines)) }
-    ensures fault { OnErr result
-        (TakesSome (W.contents writer.old) (W.contents writer.new) (listing program.now.lines)) }
-    ensures failed { OnErr result (HasFailed (W.failures writer.old) (W.failures writer.new)) }
-    ensures kind { IfErr result (λ fault. fault ≡ DeviceFault.Write) }
-    ensures unfailed { OnOk result (W.failures writer.new ≡ W.failures writer.old) }
+    ensures writes { WritesText (writes_of W.contents W.failures writer.old writer.new)
+        (listing program.now.lines) result }
     ensures reloads { (memory : ℕ) (q : Statements) → IsTrue (is_program q) → cost q ≤ memory
         → GivesProgram memory (listing q) q }
 {
@@ -47,13 +41,8 @@ fn write_line<W: Write>(
     writer: &mut W,
 ) -> Result<(), DeviceFault>
     requires { line.old ≡ [] }
-    ensures ok { OnOk result
-        (Appends (W.contents writer.old) (W.contents writer.new) (line_of (number, text.now))) }
-    ensures fault { OnErr result
-        (TakesSome (W.contents writer.old) (W.contents writer.new) (line_of (number, text.now))) }
-    ensures failed { OnErr result (HasFailed (W.failures writer.old) (W.failures writer.new)) }
-    ensures kind { IfErr result (λ fault. fault ≡ DeviceFault.Write) }
-    ensures unfailed { OnOk result (W.failures writer.new ≡ W.failures writer.old) }
+    ensures writes { WritesText (writes_of W.contents W.failures writer.old writer.new)
+        (line_of (number, text.now)) result }
     ensures empty { OnOk result (line.new ≡ []) }
 {
     let mut digits = Buffer::new();

@@ -1,10 +1,8 @@
 // This file has the buffer that gathers bytes before they are written.
 
-ghost use Rattle.std.specs.Prelude.{◌≡◌, ◌↔◌, ◌+◌, ◌≤◌, ◌++◌, List, ℕ, [], length, IsFalse, IsTrue};
-ghost use Rattle.std.specs.Prelude.{IfErr, OnErr, OnOk};
-ghost use Rattle.std.specs.Io.KnownBytes.{Appends};
+ghost use Rattle.std.specs.Prelude.{◌≡◌, ◌↔◌, ◌+◌, ◌≤◌, ◌++◌, List, ℕ, [], length, IsFalse, IsTrue, OnOk};
 ghost use Rattle.std.specs.List.{flat_map};
-ghost use Rattle.ptb_text.specs.Device.{Gathers, HasFailed, TakesSome};
+ghost use Rattle.ptb_text.specs.Streams.{GathersText, WritesText, writes_of};
 
 use crate::byte_buffer::ByteBuffer;
 use crate::{DeviceFault, Write};
@@ -43,13 +41,8 @@ impl<const N: usize> OutputBuffer<N> {
     ///
     /// [`DeviceFault::Write`] where the writer failed.
     pub fn put<W: Write>(&mut self, writer: &mut W, bytes: &[u8]) -> Result<(), DeviceFault>
-        ensures ok { OnOk result (Gathers (W.contents writer.old) (W.contents writer.new)
-            (self.old ++ bytes.now) self.new) }
-        ensures fault { OnErr result (TakesSome (W.contents writer.old) (W.contents writer.new)
-            (self.old ++ bytes.now)) }
-        ensures failed { OnErr result (HasFailed (W.failures writer.old) (W.failures writer.new)) }
-        ensures kind { IfErr result (λ fault. fault ≡ DeviceFault.Write) }
-        ensures unfailed { OnOk result (W.failures writer.new ≡ W.failures writer.old) }
+        ensures gathers { GathersText (writes_of W.contents W.failures writer.old writer.new)
+            (self.old ++ bytes.now) self.new result }
         ensures waits { length self.old + length bytes.now ≤ N
             → self.new ≡ self.old ++ bytes.now }
         ensures unwritten { length self.old + length bytes.now ≤ N → writer.new ≡ writer.old }
@@ -71,13 +64,8 @@ impl<const N: usize> OutputBuffer<N> {
     /// [`DeviceFault::Write`] where the writer failed.
     #[inline(always)]
     pub fn put_all<W: Write>(&mut self, writer: &mut W, pieces: &[&[u8]]) -> Result<(), DeviceFault>
-        ensures ok { OnOk result (Gathers (W.contents writer.old) (W.contents writer.new)
-            (self.old ++ flat_map (λ p. p.now) pieces.now) self.new) }
-        ensures fault { OnErr result (TakesSome (W.contents writer.old) (W.contents writer.new)
-            (self.old ++ flat_map (λ p. p.now) pieces.now)) }
-        ensures failed { OnErr result (HasFailed (W.failures writer.old) (W.failures writer.new)) }
-        ensures kind { IfErr result (λ fault. fault ≡ DeviceFault.Write) }
-        ensures unfailed { OnOk result (W.failures writer.new ≡ W.failures writer.old) }
+        ensures { GathersText (writes_of W.contents W.failures writer.old writer.new)
+            (self.old ++ flat_map (λ p. p.now) pieces.now) self.new result }
     {
         for piece in pieces {
             self.put(writer, piece)?;
@@ -93,13 +81,8 @@ impl<const N: usize> OutputBuffer<N> {
     // inlined, as is `put_all`: called, they cost the writer of reports registers in its usual case
     #[inline(always)]
     pub fn finish<W: Write>(&mut self, writer: &mut W, pieces: &[&[u8]]) -> Result<(), DeviceFault>
-        ensures ok { OnOk result (Appends (W.contents writer.old) (W.contents writer.new)
-            (self.old ++ flat_map (λ p. p.now) pieces.now)) }
-        ensures fault { OnErr result (TakesSome (W.contents writer.old) (W.contents writer.new)
-            (self.old ++ flat_map (λ p. p.now) pieces.now)) }
-        ensures failed { OnErr result (HasFailed (W.failures writer.old) (W.failures writer.new)) }
-        ensures kind { IfErr result (λ fault. fault ≡ DeviceFault.Write) }
-        ensures unfailed { OnOk result (W.failures writer.new ≡ W.failures writer.old) }
+        ensures writes { WritesText (writes_of W.contents W.failures writer.old writer.new)
+            (self.old ++ flat_map (λ p. p.now) pieces.now) result }
         ensures empty { OnOk result (self.new ≡ []) }
     {
         self.put_all(writer, pieces)?;
@@ -108,13 +91,7 @@ impl<const N: usize> OutputBuffer<N> {
 
     // Writes what waits.
     fn flush<W: Write>(&mut self, writer: &mut W) -> Result<(), DeviceFault>
-        ensures ok { OnOk result
-            (Appends (W.contents writer.old) (W.contents writer.new) self.old) }
-        ensures fault { OnErr result
-            (TakesSome (W.contents writer.old) (W.contents writer.new) self.old) }
-        ensures failed { OnErr result (HasFailed (W.failures writer.old) (W.failures writer.new)) }
-        ensures kind { IfErr result (λ fault. fault ≡ DeviceFault.Write) }
-        ensures unfailed { OnOk result (W.failures writer.new ≡ W.failures writer.old) }
+        ensures writes { WritesText (writes_of W.contents W.failures writer.old writer.new) self.old result }
         ensures empty { OnOk result (self.new ≡ []) }
     {
         writer.write_all(self.pending.as_slice())?;

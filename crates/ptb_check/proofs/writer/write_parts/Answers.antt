@@ -1,8 +1,6 @@
 -- This file answers that the parts of a report are written as one text.
-use Rattle.std.proofs.Common.{◌≡◌, ◌∙◌, ap, subst, List, ℕ, [], ◌++◌, append_assoc, append-nil, codes}
-use Rattle.std.specs.Io.KnownBytes.{Appends}
-use Rattle.std.proofs.lemmas.Result.{on_ok_weaker, on_err_weaker}
-use Rattle.ptb_text.specs.Device.{TakesSome}
+use Rattle.std.proofs.Common.{◌≡◌, ◌∙◌, ap, List, ℕ, [], ◌++◌, append_assoc, append-nil, codes}
+use Rattle.ptb_text.proofs.PublicLemmas.{text_same}
 use Rattle.ptb_command.specs.Act.{newline}
 use Rattle.ptb_check.proofs.writer.write_parts.Goals as goal
 
@@ -17,12 +15,7 @@ in_parts none word number before after empty =
     ++ (word ++ (number ++ (codes " " ++ (before ++ (codes "?" ++ (after ++ (codes "\n" ++ [])))))))) empty
     ∙ joined word number (codes " ") before (codes "?") after (codes "\n")
 
-pub returns-clause-ok : goal.returns-clause-ok
-returns-clause-ok g c =
-    on_ok_weaker c.finish.result (λ e. subst (Appends _ _) (in_parts _ c.args.word.now c.args.number.now
-    c.args.before.now c.args.after.now c.new-report.ensures) e) c.finish.ensures.ok
-
-pub returns-clause-fault : goal.returns-clause-fault
-returns-clause-fault g c =
-    on_err_weaker c.finish.result (λ e. subst (TakesSome _ _) (in_parts _ c.args.word.now c.args.number.now
-    c.args.before.now c.args.after.now c.new-report.ensures) e) c.finish.ensures.fault
+pub returns : goal.returns
+returns g c =
+    text_same _ _ _ c.finish.result (in_parts _ c.args.word.now c.args.number.now c.args.before.now c.args.after.now
+    c.new-report.ensures) c.finish.ensures.writes

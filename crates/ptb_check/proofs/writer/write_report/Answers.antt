@@ -1,13 +1,11 @@
 -- This file answers that the parts that are written are the report.
-use Rattle.std.proofs.Common.{◌≡◌, ◌∙◌, ap, subst, sym, inl, inr, arith, refl, ℕ, List, ◌++◌, take}
+use Rattle.std.proofs.Common.{◌≡◌, ◌∙◌, ap, sym, inl, inr, arith, refl, ℕ, List, ◌++◌, take}
 use Rattle.std.proofs.Common.{drop, length, codes, decimal, true}
 use Rattle.std.specs.Prelude.{min}
 use Rattle.std.proofs.lemmas.Bool.{cases_lt}
 use Rattle.std.proofs.lemmas.List.{take_all, drop_all}
-use Rattle.std.proofs.lemmas.Result.{on_ok_weaker, on_err_weaker}
-use Rattle.std.specs.Io.KnownBytes.{Appends}
 use Rattle.ptb_expr.specs.declared.fault.Fault.{Fault}
-use Rattle.ptb_text.specs.Device.{TakesSome}
+use Rattle.ptb_text.proofs.PublicLemmas.{text_same}
 use Rattle.ptb_command.specs.Act.{newline, report_bytes, fault_word}
 use Rattle.ptb_check.proofs.writer.write_report.Goals as goal
 use Rattle.ptb_check.proofs.writer.write_report.Goals.{After-write_parts}
@@ -40,12 +38,6 @@ parts_are g c = in_parts _ _ _ _ c.args.text.now c.args.number c.min-mark.result
     c.fault_line-word.ensures (c.as_bytes-number.ensures.value ∙ c.format.ensures.text)
     c.split_at.ensures.front c.split_at.ensures.back c.min-mark.ensures
 
-pub returns-clause-ok : goal.returns-clause-ok
-returns-clause-ok g c =
-    let whole = parts_are g (goal.at.returns-clause-ok g c).After-write_parts in
-    on_ok_weaker c.write_parts.result (λ e. subst (Appends _ _) whole e) c.write_parts.ensures.ok
-
-pub returns-clause-fault : goal.returns-clause-fault
-returns-clause-fault g c =
-    let whole = parts_are g (goal.at.returns-clause-fault g c).After-write_parts in
-    on_err_weaker c.write_parts.result (λ e. subst (TakesSome _ _) whole e) c.write_parts.ensures.fault
+pub returns : goal.returns
+returns g c =
+    text_same _ _ _ c.write_parts.result (parts_are g (goal.at.returns g c).After-write_parts) c.write_parts.ensures

@@ -2,7 +2,7 @@
 use Rattle.std.proofs.Common.{rules, ◌∙◌, []}
 use Rattle.ptb_explore.specs.Beginnings.{beginning_line, split_play}
 use Rattle.ptb_explore.proofs.Exits.{ok_no_err}
-use Rattle.ptb_explore.proofs.WrittenTexts.{failed_after}
+use Rattle.ptb_text.proofs.PublicLemmas.{failed_after}
 use Rattle.ptb_explore.proofs.WrittenLines.{game_of, game_reads, line_ends, no_line}
 use Rattle.ptb_explore.proofs.WrittenLines.{one_line_fewer, one_line_more, same_search}
 use Rattle.ptb_explore.proofs.WrittenReports.{ended_failed, ended_unfailed, next_kind}

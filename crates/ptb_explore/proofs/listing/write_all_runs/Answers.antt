@@ -2,7 +2,7 @@
 use Rattle.std.proofs.Common.{rules, ◌∙◌}
 use Rattle.std.proofs.Math.Nat.{le_trans}
 use Rattle.ptb_explore.proofs.Exits.{ok_no_err}
-use Rattle.ptb_explore.proofs.WrittenTexts.{failed_after}
+use Rattle.ptb_text.proofs.PublicLemmas.{failed_after}
 use Rattle.ptb_explore.specs.Explorations.{play_of}
 use Rattle.ptb_explore.specs.Report.{report}
 use Rattle.ptb_explore.proofs.WrittenReports.{all_wanted, ended_failed, ended_unfailed, next_ends, next_kind}

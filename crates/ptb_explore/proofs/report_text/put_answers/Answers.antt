@@ -1,21 +1,30 @@
 -- This file answers that answers are gathered one after the other, each but the first after a comma.
 use Rattle.std.proofs.Common.{rules, ◌≡◌, ℕ, ◌<◌, ◌≤◌, List, [], ◌++◌, ◌∙◌, take, length, ap, sym}
-use Rattle.std.proofs.Common.{subst, arith, pos, get_or, codes}
-use Rattle.std.proofs.lemmas.Grind.{common_steps}
+use Rattle.std.proofs.Common.{subst, arith, pos, get_or, codes, refl}
 use Rattle.std.specs.Prelude.{◌==◌, if◌then◌else◌}
 use Rattle.std.specs.List.{flat_map}
-use Rattle.std.proofs.lemmas.Result.{err_from_is_err_and}
-use Rattle.std.proofs.lemmas.List.{take_all}
+use Rattle.std.proofs.lemmas.List.{nil_from_length, take_all}
 use Rattle.ptb_text.specs.Device.{TakesSome}
 use Rattle.ptb_answers.specs.declared.asked.Asked.{Asked}
 use Rattle.ptb_answers.specs.declared.form.Form.{Form}
+use Rattle.ptb_answers.specs.declared.form.Form.TheVariants as forms
 use Rattle.ptb_answers.specs.declared.form.Marked.{Marked}
 use Rattle.ptb_answers.specs.AnswerText.{item_text, in_form, spelling}
-use Rattle.ptb_text.proofs.PublicLemmas.{gathers_same, gathers_piece, some_piece}
+use Rattle.ptb_text.proofs.PublicLemmas.{failed_after, fails, gathered_same, gathers_piece, gathers_same, some_piece}
 use Rattle.ptb_explore.specs.ReportText.{asked_items}
 use Rattle.ptb_explore.proofs.AskedLists.{asked_at, length-asked_items}
 use Rattle.ptb_explore.proofs.ReportText.{pieces_of, whole_piece, piece_at, spelling_in_pieces, length-pieces_of}
 use Rattle.ptb_explore.proofs.report_text.put_answers.Goals as goal
+
+no_items : (form : Form) → asked_items form [] ≡ []
+no_items forms.One = refl
+no_items forms.Two = refl
+
+word_for_none : (form : Form) (asked : List Asked) (s : List ℕ) → length asked ≡ 0
+    → s ++ codes "none" ≡ s ++ spelling (asked_items form asked)
+word_for_none form asked s none =
+    let items : asked_items form asked ≡ [] = ap (asked_items form) (nil_from_length asked none) ∙ no_items form in
+    ap (λ (list : List Marked). s ++ spelling list) (sym items)
 
 module _ (form : Form) (asked : List Asked) where
   count : length (pieces_of (asked_items form asked)) ≡ length asked
@@ -45,9 +54,9 @@ module _ (form : Form) (asked : List Asked) where
   whole s some = ap (λ t. s ++ t)
       (spelling_in_pieces (asked_items form asked) (omega (arith, some, length-asked_items form asked)))
 
-pub returns-in_err-put_item-clause-fault : goal.returns-in_err-put_item-clause-fault
-returns-in_err-put_item-clause-fault g c =
-    let p = err_from_is_err_and c.from_residual.result c.from_residual.ensures.1 in
+pub returns-in_err-put_item : goal.returns-in_err-put_item
+returns-in_err-put_item g c =
+    let failed = c.in_err-put_item.ensures in
     let form = c.args.form in
     let asked = c.args.asked.now in
     let q : Asked = get_or asked c.loop-k.k (record { answer = pos 0; bound = pos 0 }) in
@@ -57,8 +66,10 @@ returns-in_err-put_item-clause-fault g c =
     let is = next form asked c.loop-k.k q c.separator.result.now c.item.result c.loop-k-test.true c.separator.ensures
     (search rules) in
     let t = some_piece whole_piece (pieces_of (asked_items form asked)) c.loop-k.k [] within _ is _ _ _
-    c.args.pending.now c.loop-k.pending c.loop-k.invariant.gathered c.in_err-put_item.ensures.fault in
-    rw p.1 (subst (TakesSome _ _) (whole form asked c.args.pending.now some) t)
+    c.args.pending.now c.loop-k.pending c.loop-k.invariant.gathered failed.fault in
+    fails _ _ _ c.from_residual.result _ c.from_residual.ensures.1
+    (subst (TakesSome _ _) (whole form asked c.args.pending.now some) t)
+    (failed_after _ _ _ c.loop-k.invariant.unfailed failed.failed) failed.kind
 
 pub loop-k-preserved : goal.loop-k-preserved
 loop-k-preserved g c =
@@ -70,20 +81,28 @@ loop-k-preserved g c =
     let is = next form asked c.loop-k.k q c.separator.result.now c.item.result c.loop-k-test.true c.separator.ensures
     (search rules) in
     record {
-      unfailed = search rules;
+      unfailed = c.in_ok-put_item.ensures.unfailed ∙ c.loop-k.invariant.unfailed;
       gathered = gathers_piece whole_piece (pieces_of (asked_items form asked)) c.loop-k.k [] within _ is _ _ _
           c.args.pending.now c.loop-k.pending c.loop-k.invariant.gathered _ c.in_ok-put_item.ensures.ok;
     }
 
-pub returns-clause-ok : goal.returns-clause-ok
-returns-clause-ok g c =
+pub returns : goal.returns
+returns g c =
     let form = c.args.form in
     let asked = c.args.asked.now in
     let some : 0 < length asked = grind (arith, c.if-is_empty.ensures) in
-    gathers_same (all form asked c.args.pending.now c.loop-k.k some c.loop-k-test.false) c.loop-k.invariant.gathered
+    record {
+      ok = gathers_same (all form asked c.args.pending.now c.loop-k.k some c.loop-k-test.false)
+          c.loop-k.invariant.gathered;
+      fault = tt;
+      failed = tt;
+      kind = tt;
+      unfailed = c.loop-k.invariant.unfailed;
+    }
 
-pub returns-then-is_empty-clause-ok : goal.returns-then-is_empty-clause-ok
-returns-then-is_empty-clause-ok g c = grind (arith, common_steps)
-
-pub returns-then-is_empty-clause-fault : goal.returns-then-is_empty-clause-fault
-returns-then-is_empty-clause-fault g c = grind (arith, common_steps)
+-- no answers: the word for none
+pub returns-then-is_empty : goal.returns-then-is_empty
+returns-then-is_empty g c =
+    let none : length c.args.asked.now ≡ 0 = grind (arith, c.if-is_empty.ensures) in
+    gathered_same _ _ _ _ c.put.result (word_for_none c.args.form c.args.asked.now c.args.pending.now none)
+    c.put.ensures.gathers

@@ -1,12 +1,10 @@
 -- This file answers that an item is gathered after its separator.
-use Rattle.std.proofs.Common.{rules, ◌≡◌, ◌∙◌, ap, sym, subst, List, ℕ, [], ◌++◌, append-nil, codes}
+use Rattle.std.proofs.Common.{rules, ◌≡◌, ◌∙◌, ap, sym, List, ℕ, [], ◌++◌, append-nil, codes}
 use Rattle.std.proofs.Common.{Option, Some, None, ℤ, FitsSigned, w16, to_z-of_z}
 use Rattle.std.specs.Fmt.{signed_decimal}
-use Rattle.std.proofs.lemmas.Result.{on_ok_weaker, on_err_weaker}
-use Rattle.ptb_text.specs.Device.{TakesSome}
 use Rattle.ptb_answers.specs.declared.form.Marked.{Marked}
 use Rattle.ptb_answers.specs.AnswerText.{bound_text, item_text}
-use Rattle.ptb_text.proofs.PublicLemmas.{gathers_same}
+use Rattle.ptb_text.proofs.PublicLemmas.{gathered_same}
 use Rattle.ptb_explore.proofs.report_text.put_item.Goals as goal
 use Rattle.ptb_explore.proofs.report_text.put_item.Goals.{After-as_bytes-answer, After-put_all-in-Some}
 
@@ -42,26 +40,14 @@ bound_added g c digits =
     digits
     (c.as_bytes-bound.ensures.value ∙ c.format-in-Some.ensures.text ∙ ap signed_decimal (to_z-of_z fits)) c.in-Some.is
 
-pub returns-in-Some-clause-ok : goal.returns-in-Some-clause-ok
-returns-in-Some-clause-ok g c =
-    let at = goal.at.returns-in-Some-clause-ok g c in
+pub returns-in-Some : goal.returns-in-Some
+returns-in-Some g c =
+    let at = goal.at.returns-in-Some g c in
     let whole = bound_added g at.After-put_all-in-Some (digits_are g at.After-as_bytes-answer) in
-    on_ok_weaker c.put_all-in-Some.result (λ e. gathers_same whole e) c.put_all-in-Some.ensures.ok
+    gathered_same _ _ _ _ c.put_all-in-Some.result whole c.put_all-in-Some.ensures
 
-pub returns-in-Some-clause-fault : goal.returns-in-Some-clause-fault
-returns-in-Some-clause-fault g c =
-    let at = goal.at.returns-in-Some-clause-fault g c in
-    let whole = bound_added g at.After-put_all-in-Some (digits_are g at.After-as_bytes-answer) in
-    on_err_weaker c.put_all-in-Some.result (λ e. subst (TakesSome _ _) whole e) c.put_all-in-Some.ensures.fault
-
-pub returns-in-None-clause-ok : goal.returns-in-None-clause-ok
-returns-in-None-clause-ok g c =
+pub returns-in-None : goal.returns-in-None
+returns-in-None g c =
     let whole = without_number c.args.pending.now c.args.separator.now _ c.args.item
-    (digits_are g (goal.at.returns-in-None-clause-ok g c).After-as_bytes-answer) c.in-None.is in
-    on_ok_weaker c.put_all.result (λ e. gathers_same whole e) c.put_all.ensures.ok
-
-pub returns-in-None-clause-fault : goal.returns-in-None-clause-fault
-returns-in-None-clause-fault g c =
-    let whole = without_number c.args.pending.now c.args.separator.now _ c.args.item
-    (digits_are g (goal.at.returns-in-None-clause-fault g c).After-as_bytes-answer) c.in-None.is in
-    on_err_weaker c.put_all.result (λ e. subst (TakesSome _ _) whole e) c.put_all.ensures.fault
+    (digits_are g (goal.at.returns-in-None g c).After-as_bytes-answer) c.in-None.is in
+    gathered_same _ _ _ _ c.put_all.result whole c.put_all.ensures

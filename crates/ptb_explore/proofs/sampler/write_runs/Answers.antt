@@ -5,7 +5,7 @@ use Rattle.ptb_answers.specs.Seeds.{SeededAnswers}
 use Rattle.ptb_machine.specs.Play.{play}
 use Rattle.ptb_machine.specs.Questions.{most_answers}
 use Rattle.ptb_explore.specs.Report.{report}
-use Rattle.ptb_explore.proofs.WrittenTexts.{failed_after}
+use Rattle.ptb_text.proofs.PublicLemmas.{failed_after}
 use Rattle.ptb_explore.proofs.DrawnRuns.{left_by, run_of}
 use Rattle.ptb_explore.proofs.Samples.{run_kind, sampled_ends, sampled_next}
 use Rattle.ptb_explore.proofs.WrittenReports.{ended_failed, ended_unfailed}

@@ -5,13 +5,13 @@ use Rattle.ptb_serve.proofs.text.list_text.Goals as goal
 
 pub returns-in_err-list : goal.returns-in_err-list
 returns-in_err-list g c =
+    let failed = c.in_err-list.ensures.writes in
     text_broken c.args.program.now
     (writes_of g.W.Write.contents g.W.Write.failures c.args.out.now c.list.new.writer) c.from_residual.result
-    c.in_err-list.field-0.0 c.from_residual.ensures.1 c.in_err-list.ensures.kind c.in_err-list.ensures.fault
-    c.in_err-list.ensures.failed
+    c.in_err-list.field-0.0 c.from_residual.ensures.1 failed.kind failed.fault failed.failed
 
 pub returns : goal.returns
 returns g c =
+    let whole = c.in_ok-list.ensures.writes in
     text_written c.args.program.now
-    (writes_of g.W.Write.contents g.W.Write.failures c.args.out.now c.list.new.writer)
-    c.in_ok-list.ensures.ok c.in_ok-list.ensures.unfailed
+    (writes_of g.W.Write.contents g.W.Write.failures c.args.out.now c.list.new.writer) whole.ok whole.unfailed
