@@ -4,8 +4,7 @@
 //!
 //! It depends on `ptb_serve`, `ptb_options`, the crates below them and `clap`. No crate depends on
 //! it, so neither a build of the program nor the trial of a planted bug computes its rows. They hold
-//! of the definitions; its tests run `serve` on those of requests, over readers and writers that
-//! move few bytes, fail, or never end.
+//! of the definitions; `ptb_tests` runs the code.
 #![tactic(auto)]
 
 mod language_rows;
@@ -21,8 +20,3 @@ pub use rows::{
     fault_rows, list_rows, listing_rows, long_run_rows, option_rows, program_rows, refusal_rows,
     run_rows, sample_rows, seed_rows, share_rows, split_rows,
 };
-
-#[cfg(test)]
-mod all_tests;
-#[cfg(test)]
-mod tests;

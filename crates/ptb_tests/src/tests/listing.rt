@@ -1,5 +1,6 @@
 // This file tests listings of runs, also to writers that fail and where memory is refused.
 
+use crate::tests::devices::{FAILINGS, Failing, make_sink};
 use crate::tests::explorers::{ALL, BRANCHES, Listing, Runs, explorer_of, open_fault};
 use crate::tests::shared::{
     FOUR_OF_3, FOUR_OF_4, ONE, ONE_OF_1, ONE_OF_2, ONE_OF_3, ONE_OF_4, OUT_OF_MEMORY, Row, THREE,
@@ -8,10 +9,8 @@ use crate::tests::shared::{
 use crate::tests::writing::{Written, has_just, is_begun, is_result, refused_after, tell};
 use ptb_explore::{ExploreFault, Explorer, Form, OpenFault, write_all_runs};
 use ptb_machine::{Ending, Line};
-use ptb_text::{ByteSink, Device, Program};
+use ptb_text::{Device, Program};
 use std::alloc::{AllocError, Global};
-use std::io;
-use std::io::ErrorKind;
 use std::test::Fail;
 
 const PRODUCTS: &str = "10 PRINT RND(2)*RND(2)";
@@ -201,42 +200,6 @@ fn lends_each_report(rt: HostRuntime) -> Result<(), Fail> {
     Ok(())
 }
 
-// How a writer fails: by an error, by one that says that it was interrupted, or by taking nothing.
-#[derive(Clone, Copy, Debug, PartialEq, Eq)]
-enum Failing {
-    Breaks,
-    IsInterrupted,
-    TakesNothing,
-}
-
-// Takes at most five bytes a call, until it fails at a call.
-#[derive(Drop)]
-struct Sink {
-    taken: Vec<u8>,
-    calls_left: usize,
-    failing: Failing,
-}
-
-impl ByteSink for &mut Sink {
-    fn write(&mut self, buf: &[u8]) -> io::Result<usize> {
-        let Some(left) = self.calls_left.checked_sub(1) else {
-            return match self.failing {
-                Failing::Breaks => Err(io::Error::from(ErrorKind::BrokenPipe)),
-                Failing::IsInterrupted => Err(io::Error::from(ErrorKind::Interrupted)),
-                Failing::TakesNothing => Ok(0),
-            };
-        };
-        self.calls_left = left;
-        let count = buf.len().min(5);
-        self.taken.extend_from_slice(&buf[..count])?;
-        Ok(count)
-    }
-
-    fn flush(&mut self) -> io::Result<()> {
-        Ok(())
-    }
-}
-
 // Whether the listing of all products to a writer that fails after so many calls counts the reports that
 // are written. A report of 24 bytes takes five calls.
 fn is_counted(
@@ -246,11 +209,7 @@ fn is_counted(
     failing: Failing,
     calls: usize,
 ) -> bool {
-    let mut sink = Sink {
-        taken: Vec::new(alloc),
-        calls_left: calls,
-        failing,
-    };
+    let mut sink = make_sink(alloc, 5, calls, failing);
     let Ok(mut explorer) = explorer_of(alloc, program, lines, plain_rules(10000), Runs::All) else {
         return false;
     };
@@ -262,11 +221,7 @@ fn is_counted(
 #[test]
 fn counts_reports_of_a_failing_writer(rt: HostRuntime) -> Result<(), Fail> {
     let (program, lines) = loaded(rt.alloc(), PRODUCTS, "")?;
-    for failing in [
-        Failing::Breaks,
-        Failing::IsInterrupted,
-        Failing::TakesNothing,
-    ] {
+    for &failing in FAILINGS {
         for calls in 0..=20 {
             let is_right = is_counted(rt.alloc(), &program, &lines, failing, calls);
             let found = (failing, calls, is_right);

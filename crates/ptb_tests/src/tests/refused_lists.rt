@@ -1,11 +1,12 @@
 // This file tests what `serve` says of a list that fits no run: by its note, and why.
 
 use crate::tests::explorers::BRANCHES;
+use crate::tests::served_listings::kept;
 use crate::tests::shared::{
     FOUR_OF_3, ONE, Row, THREE, TWO, TWO_OF_2, TWO_OF_3, expect_rows, plain_rules, table,
 };
 use ptb_explore::{Form, Marked, Mismatch};
-use ptb_options::{DEFAULT_MEMORY, MarkedAnswers, Mode, Request};
+use ptb_options::{DEFAULT_MEMORY, Mode, Request};
 use ptb_serve::{ListMismatch, Note, serve};
 use ptb_text::Device;
 use std::alloc::{AllocError, Global};
@@ -32,14 +33,6 @@ const ROWS: &[Lists] = table! { Lists:
      Some(ListMismatch::After(Mismatch::OutOfRange { item: 2, answer: 4, bound: 3 }))),
     (Some(&[TWO]), Some(&[ONE]), Some(Note::NoRun), Some(ListMismatch::After(Mismatch::NotUnder))),
 };
-
-// A list as a request has it.
-fn kept(alloc: Global, list: Option<&[Marked]>) -> Result<Option<MarkedAnswers>, AllocError> {
-    match list {
-        Some(list) => Ok(Some(Vec::from_slice(alloc, list)?.into())),
-        None => Ok(None),
-    }
-}
 
 // A listing of all runs with these two lists.
 fn request_of(

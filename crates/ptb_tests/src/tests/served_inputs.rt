@@ -1,0 +1,148 @@
+// This file tests inputs that fail or never end, and requests that leave their input alone.
+
+use crate::tests::devices::Script;
+use crate::tests::replies::{
+    Kind, RUN, ServedRow, expect_reply, reply_on_endless_input, reply_to, request_of, row, rows,
+};
+use crate::tests::shared::expect_same;
+use ptb_explore::Form;
+use ptb_serve::{Note, Outcome};
+use ptb_text::Device;
+use std::alloc::{AllocError, Global};
+use std::process::Abort;
+use std::test::Fail;
+
+// The result of a row whose input gives some bytes a call, and fails after these.
+fn reply_on_unread_input(
+    alloc: Global,
+    row: &ServedRow<'_>,
+    bytes: &[u8],
+    piece: usize,
+) -> Result<(Outcome, Vec<u8>), AllocError> {
+    let request = request_of(alloc, row)?;
+    let mut program = Device::new(row.program);
+    let mut input = Device::new(Script {
+        bytes,
+        piece,
+        fails: true,
+    });
+    Ok(reply_to(alloc, &request, &mut program, &mut input, 1))
+}
+
+// Programs, the bytes after which their input fails, the status, and what is shown.
+const UNREAD_INPUTS: &[(&[u8], &[u8], u8, &[u8])] = &[
+    (b"10 PRINT \"HI\"", b"", 0, b"HI\n"),
+    (b"10 INPUT A", b"5\n", 0, b"A:5\n"),
+    (b"10 INPUT A,B", b"5\n", 66, b"A:5\nB:"),
+    (b"10 INPUT A,B", b"5\n7", 66, b"A:5\nB:"),
+    (b"10 INPUT A", b"", 66, b"A:"),
+    (b"10 INPUT A", b"5", 66, b"A:"),
+];
+
+// How many bytes are read at most, and the bound for answers instead of lines.
+const READINGS: &[(usize, Option<i16>)] = &[(1, None), (5000, None), (1, Some(9)), (5000, Some(9))];
+
+// However the input of a row is read, it fails after these bytes.
+fn expect_unread_input(
+    rt: &impl Abort,
+    alloc: Global,
+    row: &ServedRow<'_>,
+    bytes: &[u8],
+) -> Result<(), AllocError> {
+    for &(piece, choose) in READINGS {
+        let reply = reply_on_unread_input(alloc, &ServedRow { choose, ..*row }, bytes, piece)?;
+        expect_reply(rt, reply, (row.status, row.note), row.bytes);
+    }
+    Ok(())
+}
+
+// The kinds of requests that read the input to its end first.
+const INPUT_FIRST: &[Kind<'static>] = &[
+    Kind::Chances,
+    Kind::Shares(1, Form::Two),
+    Kind::Sample(3, Form::Two),
+];
+
+// Nothing is written of a table, of lists or of a sample until the input was read to its end.
+#[test]
+fn inputs_read_first(rt: HostRuntime) -> Result<(), Fail> {
+    for &kind in INPUT_FIRST {
+        let row = row!(
+            b"10 P.RND(6)\n",
+            b"",
+            66,
+            kind = kind,
+            note = Some(Note::InputUnread)
+        );
+        expect_unread_input(&rt, rt.alloc(), &row, b"5\n")?;
+        expect_endless_input(&rt, rt.alloc(), &row)?;
+    }
+    Ok(())
+}
+
+// A line is read only when it is asked for, and what was shown before stays. An answer doesn't
+// stand for a line that can't be read.
+#[test]
+fn unread_inputs(rt: HostRuntime) -> Result<(), Fail> {
+    for &(program, bytes, status, shown) in UNREAD_INPUTS {
+        let note = (status == 66).then_some(Note::InputUnread);
+        let kind = Kind::Run(&[4, 4]);
+        let row = row!(program, shown, status, kind = kind, note = note);
+        expect_unread_input(&rt, rt.alloc(), &row, bytes)?;
+    }
+    Ok(())
+}
+
+// A row whose input is endless can't read it.
+fn expect_endless_input(
+    rt: &impl Abort,
+    alloc: Global,
+    row: &ServedRow<'_>,
+) -> Result<(), AllocError> {
+    let request = request_of(alloc, row)?;
+    let (reply, given) = reply_on_endless_input(alloc, &request, row.program, 1);
+    expect_reply(rt, reply, (66, Some(Note::InputUnread)), row.bytes);
+    expect_same(rt, "a limit", given <= 16_777_217, true);
+    Ok(())
+}
+
+#[test]
+fn endless_inputs(rt: HostRuntime) -> Result<(), Fail> {
+    expect_endless_input(&rt, rt.alloc(), &row!(b"10 INPUT A\n", b"A:", 66))?;
+    Ok(())
+}
+
+// A row is served without reading its input, which is endless.
+fn expect_no_reading(
+    rt: &impl Abort,
+    alloc: Global,
+    row: &ServedRow<'_>,
+) -> Result<(), AllocError> {
+    let request = request_of(alloc, row)?;
+    let (reply, given) = reply_on_endless_input(alloc, &request, row.program, 3);
+    expect_reply(rt, reply, (row.status, None), row.bytes);
+    expect_same(rt, "bytes that were read", given, 0);
+    Ok(())
+}
+
+// A program that asks for no line takes none.
+#[test]
+fn inputs_not_asked_for(rt: HostRuntime) -> Result<(), Fail> {
+    expect_no_reading(&rt, rt.alloc(), &row!(b"10 PRINT \"HI\"\n", b"HI\n", 0))?;
+    Ok(())
+}
+
+const WITHOUT_INPUT: &[ServedRow<'static>] = rows! {
+    (b"10 INPUT A\n", b"10 INPUT A\n", 0, kind = Kind::List),
+    (b"10 INPUT A\n", b"", 0, kind = Kind::Check),
+    (b"10 INPUT A,\n", b"WHAT?\n10 INPUT A,?\n", 1, kind = Kind::Check),
+};
+
+// A listing of a text or of its mistakes leaves its input alone.
+#[test]
+fn inputs_left_alone(rt: HostRuntime) -> Result<(), Fail> {
+    for row in WITHOUT_INPUT {
+        expect_no_reading(&rt, rt.alloc(), row)?;
+    }
+    Ok(())
+}
