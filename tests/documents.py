@@ -14,7 +14,7 @@ nothing is said elsewhere.
 `<!-- from FILE -->` before a block means that its lines are in FILE, one after the other.
 
 The prose has short lines and complete tables, and avoids the words of tests/wording.txt. The heads of files of definitions
-and of proofs name the main ones of what is in them.
+and of proofs name the main ones of what is in them. The lines of code, definitions and proofs are short.
 
 The last line is 'N passed, M failed'. Arguments name parts of tests, as links or test_tool; without any, all are run. PTB
 names another program than the one that ./ptb builds.
@@ -380,6 +380,20 @@ class Lemmas(unittest.TestCase):
         for lib in sorted(glob.glob(f"{ROOT}/crates/*/proofs/Lib.antt")):
             with self.subTest(os.path.relpath(lib, ROOT)):
                 self.assertLessEqual(set(re.findall(r"^pub mod (\w+)", sources.text_of(lib), re.M)), {"PublicLemmas"})
+
+
+class Layout(unittest.TestCase):
+    """The lines of code, of definitions and of proofs are short, where they can be."""
+
+    def test_widths(self):
+        """Only attributes of tactics, which `rt fmt` keeps on one line, and imports of one name are longer."""
+        for crate in sorted(glob.glob(f"{ROOT}/crates/*")):
+            places = [f"{crate}/src/**/*.rt", f"{crate}/specs/*.antt", f"{crate}/proofs/**/*.antt"]
+            paths = [path for place in places for path in sorted(glob.glob(place, recursive=True))]
+            with self.subTest(os.path.basename(crate)):
+                self.assertTrue(paths)
+                wide = [(path, number) for path in paths for number in sources.wide_lines(sources.text_of(path))]
+                self.assertEqual([f"{os.path.relpath(path, ROOT)}:{number}" for path, number in wide], [])
 
 
 class Prose(unittest.TestCase):

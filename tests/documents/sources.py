@@ -4,6 +4,8 @@ import glob
 import os
 import re
 
+WIDTH = 120
+UNBROKEN = re.compile(r" *#\[tactic\(.*|use [^,]+")
 KEYWORDS = r"(?:(?:abbrev|unfoldable|pub|record|data) )*"
 DECLARED = re.compile(rf"^ *{KEYWORDS}([^\s:(){{}}\[\]]+)(?: .*)?(?: |$)(?::|where|\()", re.M)
 IN_CODE = re.compile(r"\b(?:fn|struct|enum|trait|const|mod|macro_rules!) +([A-Za-z_][A-Za-z0-9_]*)")
@@ -24,6 +26,12 @@ def files(root, folder, pattern="*.antt"):
     """The files in a folder of the crates, without the lists of modules."""
     found = sorted(glob.glob(f"{root}/crates/*/{folder}/{pattern}", recursive=True))
     return [path for path in found if os.path.basename(path) != "Lib.antt"]
+
+
+def wide_lines(text):
+    """The numbers of the lines that have too many columns and can be broken."""
+    lines = enumerate(text.split("\n"), 1)
+    return [number for number, line in lines if len(line) > WIDTH and not UNBROKEN.fullmatch(line)]
 
 
 def head(text):

@@ -66,7 +66,8 @@ opened_played game g same under old new none h =
     (λ a first. added_alone game a old new none (h a first))
 
 module _ (p : StoredProgram) (input : List (List ℕ)) (rules : Rules) (list : List Marked) (old : Runner)
-    (program : old.player ≡ p) (lines : old.lines.now ≡ input) (by : old.rules ≡ rules) (unplayed : old.played ≡ 0) where
+    (program : old.player ≡ p) (lines : old.lines.now ≡ input) (by : old.rules ≡ rules)
+    (unplayed : old.played ≡ 0) where
   pub before_all : old.copies.kept.items ≡ [] → (most : ℕ) → IsReader (play p input rules) most
       → (length list == 0) ≡ true → IsBefore p input rules list old
   before_all none most reads empty =

@@ -16,7 +16,8 @@ use Rattle.ptb_explore.proofs.OpenedExplorers.{misfit_opened}
 use Rattle.ptb_explore.proofs.RunPrefix.{program_laws}
 use Rattle.ptb_explore.proofs.explorer.Explorer.«open».Goals as goal
 use Rattle.ptb_explore.proofs.explorer.Explorer.«open».Goals.{Joined-not-is_empty}
-use Rattle.ptb_explore.proofs.explorer.Explorer.«open».Goals.{then-not-is_empty+in_ok-check_beginning, else-not-is_empty}
+use Rattle.ptb_explore.proofs.explorer.Explorer.«open».Goals.{then-not-is_empty+in_ok-check_beginning}
+use Rattle.ptb_explore.proofs.explorer.Explorer.«open».Goals.{else-not-is_empty}
 
 pub returns-in_err-items-clause-laws : goal.returns-in_err-items-clause-laws
 returns-in_err-items-clause-laws c =
@@ -51,13 +52,14 @@ before c =
     let list = c.args.under.now in
     let made = c.in_ok-runner.ensures in
     elim c.if-not-is_empty.branch [
-      | then-not-is_empty+in_ok-check_beginning w ↦ rw w.runner-is (before_begun p input rules list c.in_ok-runner.runner
-          made.program made.lines made.rules made.played w.check_beginning.new.self w.check_beginning.ensures.same
-          w.in_ok-check_beginning.ensures.none (sym c.is_empty.ensures ∙ w.if-not-is_empty.true)
+      | then-not-is_empty+in_ok-check_beginning w ↦ rw w.runner-is (before_begun p input rules list
+          c.in_ok-runner.runner made.program made.lines made.rules made.played w.check_beginning.new.self
+          w.check_beginning.ensures.same w.in_ok-check_beginning.ensures.none
+          (sym c.is_empty.ensures ∙ w.if-not-is_empty.true)
           w.in_ok-check_beginning.ensures.beginning w.in_ok-check_beginning.ensures.played)
-      | else-not-is_empty w ↦ rw w.runner-is (before_all p input rules list c.in_ok-runner.runner made.program made.lines
-          made.rules made.played made.none (most_answers p input rules.limit) (c.run_laws.ensures.reads p input rules)
-          (sym c.is_empty.ensures ∙ w.if-not-is_empty.false))
+      | else-not-is_empty w ↦ rw w.runner-is (before_all p input rules list c.in_ok-runner.runner made.program
+          made.lines made.rules made.played made.none (most_answers p input rules.limit)
+          (c.run_laws.ensures.reads p input rules) (sym c.is_empty.ensures ∙ w.if-not-is_empty.false))
     ]
 
 pub invariant_of-explorer : goal.invariant_of-explorer

@@ -46,8 +46,8 @@ returns c =
       same = changed c.play_from_start.new.self old _ _ _ c.play_from_start.ensures.same;
       run = (subst (IsRun game) are whole.0, ap (states_bounds c.args.list.now) (sym their) ∙ is.states);
       answers = ap answers_in c.exchange_answers.ensures.asked ∙ whole.1 ∙ are;
-      bounds = ap bounds_in c.exchange_answers.ensures.asked ∙ all_bounds game new (whole.2 ∙ sym (ap (bounds game) whole.1))
-          ∙ their;
+      bounds = ap bounds_in c.exchange_answers.ensures.asked ∙ all_bounds game new
+          (whole.2 ∙ sym (ap (bounds game) whole.1)) ∙ their;
       copies = kept_same old.player old.player old.lines.now old.lines.now old.rules (recorder_choices new).taken
           (answers_of c.args.list.now) shown _ _ _
           refl refl (sym (all_given game new (whole.2 ∙ sym (ap (bounds game) whole.1)) ∙ whole.1 ∙ are)) refl refl

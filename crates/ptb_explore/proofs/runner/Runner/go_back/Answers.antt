@@ -94,8 +94,8 @@ returns-in-Some-machine-clause-run_prefix c =
     c.args.common (recorded c.args.self.now.chooser) (answers_in c.args.self.now.report.asked.items)
     (bounds_in c.args.self.now.chooser.asked.items) c.args.screen.now c.go_back.new.self.kept.items
     c.in-Some.copy c.requires.agrees on (given_bounds c.assume_given.new.self) (recorded c.assume_given.new.self) given
-    (ap answers_in c.assume_given.ensures.asked) _ c.cut-in-Some.new.self c.seek.new.self c.in-Some-machine.machine.value
-    c.cut-in-Some.ensures c.seek.ensures machine_is)
+    (ap answers_in c.assume_given.ensures.asked) _ c.cut-in-Some.new.self c.seek.new.self
+    c.in-Some-machine.machine.value c.cut-in-Some.ensures c.seek.ensures machine_is)
 
 pub returns-in-Some-machine-clause-copies : goal.returns-in-Some-machine-clause-copies
 returns-in-Some-machine-clause-copies c =

@@ -24,8 +24,8 @@ play_on-requires c =
     record {
       unspent = c.in_ok-machine.ensures.unspent;
       within = omega (arith, ap (λ (s : LineList). s.taken) c.new-source.ensures);
-      run_prefix = rw (c.new-source.ensures, c.new-screen.ensures) (run_prefix_at_first old.player input old.rules choices
-          c.in_ok-machine.machine taken kept (c.in_ok-machine.ensures.represents input old.rules.choose));
+      run_prefix = rw (c.new-source.ensures, c.new-screen.ensures) (run_prefix_at_first old.player input old.rules
+          choices c.in_ok-machine.machine taken kept (c.in_ok-machine.ensures.represents input old.rules.choose));
       copies = kept_none old.player _ old.rules choices.taken _ old.copies.kept.items c.requires.none;
     }
 
