@@ -381,7 +381,7 @@ replace_list() {
     cp -p "$copy/crates.txt" "$copy/crates.new" && mv "$copy/crates.new" "$copy/crates.txt"
 }
 build_twice replace_list
-count_if 'also if the list of crates is replaced meanwhile' [ "$statuses" = '0 0' ]
+count_if 'even if the list of crates is replaced meanwhile' [ "$statuses" = '0 0' ]
 count_if 'then each crate is proved once, too' is_called_for 'low left right high ptb'
 make_copy "$folder/crates.txt"
 behaves "sleep 0.5; if [ \"\$name\" = right ] && [ ! -e '$folder/failed before' ]; then : >'$folder/failed before'; exit 1; fi"

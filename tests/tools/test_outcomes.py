@@ -335,7 +335,7 @@ class Parts(Tests):
 
 
 def take_interrupts() -> None:
-    """Takes Ctrl-C as usual, also if these tests run in the background, where a shell ignores it."""
+    """Takes Ctrl-C as usual, even if these tests run in the background, where a shell ignores it."""
     signal.signal(signal.SIGINT, signal.SIG_DFL)
 
 

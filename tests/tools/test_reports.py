@@ -79,7 +79,7 @@ class Complete(unittest.TestCase):
         self.assertEqual(read(listing(kept))[0], kept)
 
     def test_gaps_between_results_that_are_kept(self) -> None:
-        """A gap is noted, and a run that comes twice is refused, also if the report was seen before."""
+        """A gap is noted, and a run that comes twice is refused, even if the report was seen before."""
         runs = listings.tree([3, 4], lambda answers: f"{answers[1]}\n")
         path = Path(Coverage())
         list(Reader(in_pieces(listing([*runs[:9], *runs[10:]]), 1000), path))

@@ -29,7 +29,7 @@ def name() -> str:
 
 
 def folder() -> str:
-    """The folder of the tool, also if it was started by a link."""
+    """The folder of the tool, even if it was started by a link."""
     return os.path.dirname(os.path.realpath(sys.argv[0]))
 
 

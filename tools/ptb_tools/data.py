@@ -31,7 +31,7 @@ class BadTable(Exception):
 
 
 def spelled(fraction: Fraction) -> str:
-    """A fraction with its denominator, also if that is 1."""
+    """A fraction with its denominator, even if that is 1."""
     return f"{fraction.numerator}/{fraction.denominator}"
 
 

@@ -163,7 +163,7 @@ module _ {A B : Type 0} (refused : Refusal → Type 0) (R : Devices → Action A
   stops_before stops.Unread h = breaks_before errors.Read h
   stops_before stops.Unwritten h = breaks_before errors.Write h
 
--- what has come from one action has come from another that leads to it, also where more may be refused
+-- what has come from one action has come from another that leads to it, even if more may be refused
 module _ {A : Type 0} (refused others : Refusal → Type 0) (more : (r : Refusal) → refused r → others r) (R Q : Devices
     → Action A → Type 0) (along : (d : Devices) (g : Action A) → R d g → Q d g) (n : Devices) where
   breaks_along : (e : Breakage) → DeviceFails refused R n action_state (Halts (Ends endings.NoInput)) e

@@ -93,7 +93,7 @@ impl<'a, C: Chooser, S: Screen, L: LineSource> CommandIo<'a, C, S, L> {
         Ok(())
     }
 
-    /// Shows what was gathered. Nothing is gathered then, also where the screen fails.
+    /// Shows what was gathered. Nothing is gathered then, even if the screen fails.
     ///
     /// # Errors
     ///

@@ -137,7 +137,7 @@ impl PendingOutput {
         self.buffer.try_append(bytes)
     }
 
-    /// Shows what was gathered. Nothing is gathered then, also where the screen fails.
+    /// Shows what was gathered. Nothing is gathered then, even if the screen fails.
     ///
     /// # Errors
     ///

@@ -25,7 +25,7 @@ still_same n s x h =
     h ∙ ap₂ (λ y k. record s { chooser = n.chooser; report = y; copies = n.copies; played = k })
     (sym (ap (λ (r : Runner). r.report) h)) (sym (ap (λ (r : Runner). r.played) h))
 
--- also where the report is made, and commands are counted
+-- the same where a report is made, too, and commands are counted
 pub reported : (n s : Runner) (x y : Report) (d : Copies) (k : ℕ)
     → n ≡ record s { chooser = n.chooser; report = x; copies = n.copies }
     → record n { report = y; copies = d; played = k }

@@ -171,7 +171,8 @@ fn write_runs<W: Write>(
     Ok(())
 }
 
-// What plays the runs of a sample, before the first of them.
+// What plays the runs of a sample, before the first of them. Its exits are apart from those of `write_sample`,
+// which owns the sampler: each exit of a body is proved with all that the body owns.
 fn begun(alloc: Global, program: &Program, seed: u64) -> Result<Sampler<'_>, AllocError>
     ensures player { IfOk result (λ s. s.player ≡ program.now) }
     ensures chooser { IfOk result (λ s.

@@ -86,7 +86,7 @@ module _ {P R : Type 0} (request : Request) (text : Reads P) (input : Reads R) w
     pub no_beginning_within : outcome.note ≡ Some notes.NoBeginning → IfSome input.bytes (λ c. length c ≤ input_limit)
     -- nor no run to list after.
     pub no_run_within : outcome.note ≡ Some notes.NoRun → IfSome input.bytes (λ c. length c ≤ input_limit)
-    -- Of a text at most 1,048,577 bytes are read, and of an input at most 16,777,217, also where they never end.
+    -- Of a text at most 1,048,577 bytes are read, and of an input at most 16,777,217, even if they never end.
     pub text_consumed : ConsumesAtMost text.bytes text.left (program_limit + 1)
     pub text_given : GivesAtMost text.gave text.gives (program_limit + 1)
     pub input_consumed : ConsumesAtMost input.bytes input.left (input_limit + 1)

@@ -177,7 +177,7 @@ pub record RunReplies (play : Answers → Outcome Finish (List ℕ)) (most : ℕ
   -- its play
   pub run_report : (form : Form) (a : Answers) (f : Finish) → play a ≡ Done f []
       → report form play a ≡ report_text (items_in form a (bounds play a)) (ending_word f.ending) f.steps f.shown
-  -- a plain run writes what play shows, and has the status of its ending, also where an answer is missing or outside
+  -- a plain run writes what play shows, and has the status of its ending, even if an answer is missing or outside
   -- its bound
   pub plain_run : (a : Answers) → reply (modes.Plain a) ≡ run_reply (plain_of (play a))
   -- a run by a seed is a plain run with the answers that are drawn from the seed

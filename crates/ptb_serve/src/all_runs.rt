@@ -58,7 +58,7 @@ impl<'a> Listing<'a> {
 ///
 /// [`Note::InputUnread`] where the input could not be read or has more than 16,777,216 bytes;
 /// [`Note::NoBeginning`] where no run begins with `under`, [`Note::NoRun`] where `after` is no run of
-/// these, both also where a bound is not that of its question: nothing was written with these, and the
+/// these, both even if only a bound is not that of its question: nothing was written with these, and the
 /// attempt says why. [`Note::OutOfMemory`] where a growth was refused memory, never where a list was
 /// found to fit no run: nothing was written, or the reports of the first runs, fewer than all.
 /// [`Note::Unwritten`] where the writer failed: a prefix of the reports was written.
@@ -90,7 +90,8 @@ pub fn list_runs<R: Read, W: Write>(
 }
 
 // Writes the reports of a program's runs on the lines of an input that was read, or says why a list
-// fits no run.
+// fits no run. Its caller owns these lines and has few exits: each exit of a body is proved with all that
+// the body owns.
 fn list_runs_on<W: Write>(
     alloc: Global,
     request: &Request,

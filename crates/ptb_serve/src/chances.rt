@@ -39,7 +39,8 @@ pub fn list_table<R: Read, W: Write + Watch>(
     table_on(alloc, request, program, &lines, out)
 }
 
-// Writes the table of a program's runs on the lines of an input that was read.
+// Writes the table of a program's runs on the lines of an input that was read. Its caller owns these lines
+// and has few exits: each exit of a body is proved with all that the body owns.
 fn table_on<W: Write + Watch>(
     alloc: Global,
     request: &Request,

@@ -39,7 +39,8 @@ pub fn list_sample<R: Read, W: Write>(
     sample_lines(alloc, request, program, &lines, sample, out)
 }
 
-// Writes the reports of the runs that a seed draws on the lines of an input that was read.
+// Writes the reports of the runs that a seed draws on the lines of an input that was read. Its caller owns
+// these lines and has few exits: each exit of a body is proved with all that the body owns.
 fn sample_lines<W: Write>(
     alloc: Global,
     request: &Request,

@@ -58,7 +58,8 @@ pub fn list_shares<R: Read, W: Write>(
     share_lines(alloc, request, program, &lines, shares, out)
 }
 
-// Writes the lists that split a program's runs on the lines of an input that was read.
+// Writes the lists that split a program's runs on the lines of an input that was read. Its caller owns
+// these lines and has few exits: each exit of a body is proved with all that the body owns.
 fn share_lines<W: Write>(
     alloc: Global,
     request: &Request,

@@ -106,7 +106,7 @@ pub record ReadsWithin {R : Type 0} (left now : ℕ) (input : Reads R) (result :
 -- A reader is read to its end. A call of which this is said is complete, or finds too many bytes, or finds that the
 -- reader failed, or it is refused memory.
 pub record ReadsUpTo {R : Type 0} (limit : ℕ) (input : Reads R) (complete too_long failed : Type 0) : Type 0 where
-  -- At most one byte more than the limit is read, also where nobody knows which bytes come.
+  -- At most one byte more than the limit is read, even if nobody knows which bytes come.
   pub consumed : ConsumesAtMost input.bytes input.left (limit + 1)
   pub given : GivesAtMost input.gave input.gives (limit + 1)
   -- A call that is complete has read all bytes, and no more than the limit.

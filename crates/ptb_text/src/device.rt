@@ -16,8 +16,8 @@ use crate::device_fault::DeviceFault;
 /// changes it. The count ends at `u64::MAX`; a reader that has reached it answers the fault to each
 /// call.
 ///
-/// Its bytes are counted, too, also where it is not known which will come: a call that gives some adds
-/// how many, and no other call changes the count. It stays at `u64::MAX` where it would pass it.
+/// Its bytes are counted, too, even if it is not known which will come: a call that gives some adds how
+/// many, and no other call changes the count. It stays at `u64::MAX` where it would pass it.
 pub trait Read {
     /// The bytes that it will give from here on to its end, where they are known.
     ghost remaining: { Self → Option (List ℕ) };

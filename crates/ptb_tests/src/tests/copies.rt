@@ -239,7 +239,7 @@ impl Opened {
 }
 
 impl Row<Global> for Opened {
-    // It holds also where there is no memory.
+    // It holds even if there is no memory.
     fn holds(&self, alloc: &Global) -> bool {
         let (program, lines) = match loaded(*alloc, "10 A=RND(2);B=RND(3)", "") {
             Ok(both) => both,

@@ -185,7 +185,7 @@ fn is_next(explorer: &mut Explorer, second: i16) -> bool {
     }
 }
 
-// Whether no run is left, also when this is asked again.
+// Whether no run is left, even if this is asked again.
 fn is_none_left(explorer: &mut Explorer) -> bool {
     matches!(explorer.next(), Ok(None)) && matches!(explorer.next(), Ok(None))
 }
@@ -231,7 +231,7 @@ fn counts_reports_of_a_failing_writer(rt: HostRuntime) -> Result<(), Fail> {
     Ok(())
 }
 
-// How many reports were written, also where memory was refused.
+// How many reports were written, even if memory was refused.
 fn count_of(written: Result<u64, ExploreFault>) -> usize {
     match written {
         Ok(count) => count as usize,

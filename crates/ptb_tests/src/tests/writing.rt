@@ -30,7 +30,7 @@ pub(crate) fn source_of(alloc: Global, text: &str, input: &str) -> Result<Source
 
 /// What a call writes of the runs of a program: some items.
 pub(crate) trait Writing {
-    /// Writes them into a room; how many items it wrote, also where it fails.
+    /// Writes them into a room; how many items it wrote, even if it fails.
     fn write(&self, source: &Source, room: &mut [u8]) -> Result<u64, ExploreFault>;
 }
 
