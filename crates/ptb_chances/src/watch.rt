@@ -13,6 +13,8 @@ pub trait Watch {
 }
 
 /// Watches nothing.
+///
+/// For users of the library: the program doesn't use it.
 #[derive(Drop)]
 pub struct Unwatched;
 

@@ -1,6 +1,6 @@
 // This file has the screens, which show the bytes of a run.
 
-ghost use Rattle.std.specs.Prelude.{◌≡◌, ◌↔◌, ℕ, ◌≤◌, Bool, true, false, List, [], length, take, Option, Some, None};
+ghost use Rattle.std.specs.Prelude.{◌≡◌, ℕ, ◌≤◌, Bool, true, false, List, [], length, take, Option, Some, None};
 ghost use Rattle.std.specs.Prelude.{OnOk, OnErr, IfErr, IsErrOf, IsTrue};
 ghost use Rattle.std.specs.Borrow.{GName};
 ghost use Rattle.std.specs.Io.KnownBytes.{Appends};
@@ -123,13 +123,6 @@ impl TextScreen {
         ensures { result ≡ length self.now }
     {
         self.text.len()
-    }
-
-    /// Whether it has shown nothing.
-    pub fn is_empty(&self) -> bool
-        ensures { IsTrue result ↔ (self.now ≡ []) }
-    {
-        self.text.is_empty()
     }
 
     /// Keeps the first `count` bytes, and forgets that it has shown more.

@@ -102,6 +102,8 @@ impl<'a> Explorer<'a> {
 
     /// The number of copies of the machine that are kept now, at most 64. They are of the run at which
     /// the explorer is; there are none where it is at no run.
+    ///
+    /// For users of the library: the program doesn't call it.
     pub fn kept(&self) -> usize
         ensures number { result ≡ length self.now.kept }
         ensures most { result ≤ 64 }
@@ -115,6 +117,8 @@ impl<'a> Explorer<'a> {
 
     /// How many commands were played, in all runs so far and in those that were refused memory;
     /// `u64::MAX` where there were more.
+    ///
+    /// For users of the library: the program doesn't call it.
     pub fn played(&self) -> u64
         ensures { result ≡ self.now.played }
     {

@@ -136,6 +136,8 @@ impl<'a> Explorer<'a> {
     /// An explorer before the first run of a program with these input lines. Each run is played by
     /// these rules.
     ///
+    /// For users of the library: the program calls [`under`](Explorer::under).
+    ///
     /// # Errors
     ///
     /// Where a growth was refused memory.
@@ -201,6 +203,8 @@ impl<'a> Explorer<'a> {
     /// An explorer that is at the run of the answers of a list, of which some may have their
     /// bounds.
     ///
+    /// For users of the library: the program calls [`go_to`](Explorer::go_to).
+    ///
     /// # Errors
     ///
     /// [`OpenFault::NotARun`] with the reason where the answers are no run, or a bound that is stated
@@ -232,6 +236,8 @@ impl<'a> Explorer<'a> {
     }
 
     /// An explorer that is at the run of these answers.
+    ///
+    /// For users of the library: the program calls [`go_to`](Explorer::go_to).
     ///
     /// # Errors
     ///

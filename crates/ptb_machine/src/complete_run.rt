@@ -15,6 +15,8 @@ use std::alloc::{AllocError, Global};
 
 /// Runs a program from its beginning to its ending, by these rules.
 ///
+/// For users of the library: the program calls [`run_to_end`].
+///
 /// # Errors
 ///
 /// [`RunFault::Memory`], [`RunFault::Read`] and [`RunFault::Write`] where a growth was refused

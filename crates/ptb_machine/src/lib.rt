@@ -44,8 +44,8 @@ pub use player::Player;
 pub use program_code::ProgramCode;
 pub use ptb_answers::Rules;
 pub use ptb_command::{
-    CommandCode, Destination, Ending, Expression, Operation, command_laws, fault_line, line_at,
-    start_of, translate,
+    CommandCode, Destination, Ending, Operation, command_laws, fault_line, line_at, start_of,
+    translate,
 };
 pub use ptb_devices::{Line, Lines, ReaderLines, TextScreen, WriterScreen, read_lines};
 // No crate of the program imports these two: they are for users of the library who have devices of their own.

@@ -23,6 +23,8 @@ use std::alloc::Global;
 /// read on only while fewer lines are complete than were asked for. Answers that are left over are
 /// not looked at.
 ///
+/// For users of the library: the program calls [`run_plain_to_end`].
+///
 /// # Errors
 ///
 /// [`RunFault::Read`] where a line could not be read, or more than 16,777,216 bytes would have to
@@ -84,6 +86,8 @@ pub fn run_plain_to_end<R: Read, W: Write>(
 /// The answers are those of one list: the run is the plain run with this list, and its answers are
 /// what is drawn from the seed for the bounds of its questions. None is missing or out of range.
 /// Lines are read as they are for a plain run.
+///
+/// For users of the library: the program calls [`run_seeded_to_end`].
 ///
 /// # Errors
 ///

@@ -43,6 +43,8 @@ impl<T> ItemList<T> {
     }
 
     /// The `Vec` that the list was made from.
+    ///
+    /// For users of the library: the program doesn't call it.
     pub fn into_vec(self) -> Vec<T>
         ensures { result.items ≡ self }
     {

@@ -36,8 +36,8 @@ fn writer_screens(rt: HostRuntime) {
 
 // What a screen in memory has shown.
 fn expect_shown(rt: &impl Abort, screen: &TextScreen, shown: &[u8]) {
-    let found = (screen.bytes(), screen.len(), screen.is_empty());
-    expect_eq(rt, "shown", found, (shown, shown.len(), shown.is_empty()));
+    let found = (screen.bytes(), screen.len());
+    expect_eq(rt, "shown", found, (shown, shown.len()));
 }
 
 #[test]

@@ -1,7 +1,0 @@
--- This file proves goals of `is_empty` by short searches, so that a planted bug is refused soon.
-use Rattle.std.proofs.Common.{arith}
-use Rattle.std.proofs.lemmas.Grind.{common_steps}
-use Rattle.ptb_devices.proofs.screen.TextScreen.is_empty.Goals as goal
-
-pub returns : goal.returns
-returns c = grind (arith, common_steps)
