@@ -14,12 +14,12 @@ use Rattle.ptb_expr.specs.declared.fault.FaultKind.TheVariants as kinds
 use Rattle.ptb_expr.specs.Reading.{item_of}
 use Rattle.ptb_command.specs.declared.ending.Ending.TheVariants as endings
 use Rattle.ptb_command.specs.Actions.{Faults, Ends, Progress, Goes, Halts, Action, on_progress}
-use Rattle.ptb_command.specs.Act.{fails, is_full, if_not_full, goto_action, gosub_action, return_action}
+use Rattle.ptb_command.specs.Act.{fails, is_full, if_not_full, goto_action, gosub_action, return_action, action_of}
 use Rattle.ptb_command.specs.Act.{without_loop, with_loop, with_call, loops_from, next_action}
 use Rattle.ptb_command.specs.State.{statement, Place, Loop, Call, State, next_index, next_command, text_of, first_state}
 use Rattle.ptb_command.specs.Commands.{letter_of, Command}
 use Rattle.ptb_command.specs.Act.{operand, finish, end_of, first_width}
-use Rattle.ptb_command.specs.Act.{parts_action, command_action, StepResult, Next, Over}
+use Rattle.ptb_command.specs.Act.{command_action, StepResult, Next, Over}
 use Rattle.ptb_command.specs.Act.{step_result_of, ending_of, with_step, act}
 use Rattle.ptb_command.specs.Effects.{action_state}
 use Rattle.ptb_machine.specs.Laws.{EffectLaws}
@@ -136,7 +136,7 @@ module _ (effects : EffectLaws) where
       → HaltStays S (command_action p q c S a)
   unfolding command_action
   command_stays p q c S a =
-      then_stays S (parts_action (item_of c.parts) first_width [] S a) _
+      then_stays S (action_of (item_of c.parts) S a) _
       (effects.parts (item_of c.parts) first_width [] S a).place
       (λ operands T b. finish_stays c.kind p q (end_of c.parts) (letter_of (item_of c.parts)) operands T b)
 

@@ -23,7 +23,7 @@ use Rattle.ptb_command.specs.Commands.{Part, Assign, Say, Width, Show, NewLine, 
 use Rattle.ptb_command.specs.State.{Place, Loop, Call, State, text_of, nesting, nesting_limit}
 use Rattle.ptb_command.specs.Actions.{Halt, Faults, Ends, Progress, Goes, Halts, Action}
 use Rattle.ptb_command.specs.Actions.{on_progress, and_then, goes_on, halt, change, show, attempt, or_halt, work_action}
-use Rattle.ptb_command.specs.Act.{newline, without_line, fails, is_full, go_to, if_not_full}
+use Rattle.ptb_command.specs.Act.{newline, without_line, fails, is_full, go_to, if_not_full, action_of}
 use Rattle.ptb_command.specs.Act.{goto_action, with_call, gosub_action, return_action, without_loop}
 use Rattle.ptb_command.specs.Act.{with_loop, for_action, loops_from, is_past, loop_end, loop_turn}
 use Rattle.ptb_command.specs.Commands.{letter_of}
@@ -451,7 +451,7 @@ of_end S T c = record {
 pub command_change : (p : Statements) (q : Place) (c : Command) → Preserves CommandChange (command_action p q c)
 unfolding command_action
 command_change p q c =
-    then_keeps CommandChange command_joined (parts_action (item_of c.parts) first_width [])
+    then_keeps CommandChange command_joined (action_of (item_of c.parts))
     (finish c.kind p q (end_of c.parts) (letter_of (item_of c.parts)))
     (record {
       at = λ S a. of_parts S _ ((parts_part (item_of c.parts) first_width []).at S a)

@@ -21,7 +21,7 @@ use Rattle.ptb_command.specs.Commands.{Part, Assign, Say, Width, Show, NewLine, 
 use Rattle.ptb_command.specs.State.{State, Place, Loop, Call, first_state, text_of, next_command}
 use Rattle.ptb_command.specs.Actions.{Halt, Faults, Ends, Progress, Goes, Halts, Action}
 use Rattle.ptb_command.specs.Actions.{on_progress, and_then, goes_on, halt, change, show, attempt, or_halt, work_action}
-use Rattle.ptb_command.specs.Act.{newline, fails, is_full, if_not_full, goto_action, gosub_action}
+use Rattle.ptb_command.specs.Act.{newline, fails, is_full, if_not_full, goto_action, gosub_action, action_of}
 use Rattle.ptb_command.specs.Act.{return_action, without_loop, with_loop, with_call, for_action}
 use Rattle.ptb_command.specs.Act.{loops_from, is_past, loop_end, loop_turn, after_sum, next_action}
 use Rattle.ptb_command.specs.Commands.{letter_of}
@@ -219,7 +219,7 @@ finish_ends _ p q e x operands = change_ends _ (λ S. refl)
 command_ends : (p : Statements) (q : Place) (c : Command) → EndsLikeRun (command_action p q c)
 unfolding command_action
 command_ends p q c =
-    then_ends (parts_action (item_of c.parts) first_width [])
+    then_ends (action_of (item_of c.parts))
     (finish c.kind p q (end_of c.parts) (letter_of (item_of c.parts)))
     (parts_ends (item_of c.parts) first_width [])
     (λ operands. finish_ends c.kind p q (end_of c.parts) (letter_of (item_of c.parts)) operands)

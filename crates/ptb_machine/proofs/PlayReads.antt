@@ -13,8 +13,8 @@ use Rattle.ptb_expr.specs.Laws.{ValueLaws}
 use Rattle.ptb_command.specs.Commands.{Command, letter_of}
 use Rattle.ptb_command.specs.State.{Place, State, first_state, text_of, next_command}
 use Rattle.ptb_command.specs.Actions.{Faults, Ends, Progress, Goes, Halts}
-use Rattle.ptb_command.specs.Act.{finish, end_of, first_width, command_action}
-use Rattle.ptb_command.specs.Act.{StepResult, Next, Over, step_result_of, with_step, act, parts_action}
+use Rattle.ptb_command.specs.Act.{finish, end_of, first_width, command_action, action_of}
+use Rattle.ptb_command.specs.Act.{StepResult, Next, Over, step_result_of, with_step, act}
 use Rattle.ptb_answers.specs.declared.rules.Rules.{Rules}
 use Rattle.ptb_machine.specs.Questions.{command_questions, line_questions, most_answers, answers_left}
 use Rattle.ptb_machine.specs.Play.{Last, act_unless, turn_by, turn, after_turn, turns_within}
@@ -41,7 +41,7 @@ module _ (values : ValueLaws) where
     unfolding command_action parts_questions
     command_spends p q c h =
         wider_spends _ _ (command_questions c + 0) _ (omega arith)
-        (then_spends _ (parts_action (item_of c.parts) first_width [])
+        (then_spends _ (action_of (item_of c.parts))
         (finish c.kind p q (end_of c.parts) (letter_of (item_of c.parts))) (command_questions c) 0
         (parts_spends values again (item_of c.parts) first_width [] h)
         (finish_spends again c.kind p q (end_of c.parts) (letter_of (item_of c.parts))))
