@@ -7,7 +7,7 @@ use Rattle.std.specs.Prelude.{ℤ, pos, ◌+ℤ◌, ◌≤ℤ◌, int_le}
 use Rattle.std.proofs.lemmas.Bool.{false_from_ne_true, and_parts, and_from}
 use Rattle.std.proofs.lemmas.Int.{ints}
 use Rattle.std.specs.List.{filter}
-use Rattle.ptb_answers.specs.Outcome.{Answers, Outcome, IsReader, bound_of, is_answer}
+use Rattle.ptb_answers.specs.Outcome.{Answers, Outcome, IsReader, bound_of, is_answer, is_open}
 use Rattle.ptb_machine.specs.RunTree.{IsRun, IsRising, tree, is_before, Before, Front, Start, At}
 use Rattle.ptb_machine.specs.RunTree.{End, is_after, is_left, begins_with, runs_after, IsNextRun}
 use Rattle.ptb_machine.specs.RunTree.{IsLast}
@@ -96,6 +96,12 @@ module _ {A W : Type 0} (play : Answers → Outcome A W) (most : ℕ) (reads : I
       filter_drops _ (tree play most) (λ b i. false_from_ne_true _ (λ t. none b ((tree_runs play most reads b).0 i) t))
 
 -- ---- no run between
+
+-- what continues from the plan with ones and is a run is the next run that is left
+pub record IsPlan {A W : Type 0} (play : Answers → Outcome A W) (under : Answers) (front : Front)
+    (plan : Answers) : Type 0 where
+  pub opens : is_open (play plan) ≡ true
+  pub next : (ones : Answers) → AllOnes ones → IsRun play (plan ++ ones) → IsNextRun play under front (plan ++ ones)
 
 -- each answer is at its bound
 abbrev pub AtTop : {A W : Type 0} → (Answers → Outcome A W) → Answers → Answers → Type 0

@@ -12,12 +12,12 @@ use Rattle.ptb_answers.specs.Outcome.{Answers, Outcome, Asks, IsReader, is_answe
 use Rattle.ptb_answers.proofs.PublicLemmas.{open_is, whole_is}
 use Rattle.ptb_explore.specs.Laws.{ShareLaws}
 use Rattle.ptb_explore.specs.Listing.{text}
-use Rattle.ptb_explore.specs.Plans.{AllOnes, IsPlan}
+use Rattle.ptb_explore.specs.Plans.{AllOnes}
 use Rattle.ptb_machine.specs.RunTree.{Front, Start, IsLast, IsRun, IsRising, Before, answers_to}
 use Rattle.ptb_machine.specs.RunTree.{begins_with, is_after, is_left, runs_after, tree}
 use Rattle.ptb_explore.proofs.Lists.{IsIn, all_at, answers_in, contained_in, filter_in, in_answers}
 use Rattle.ptb_explore.proofs.Lists.{in_filter, rising_answers, rising_filter}
-use Rattle.ptb_explore.proofs.NextRuns.{left_after, left_begins, left_from}
+use Rattle.ptb_explore.proofs.Next.{IsPlan, left_after, left_begins, left_from}
 use Rattle.ptb_explore.proofs.Order.{before_from_differ, before_more, before_not_back, before_self}
 use Rattle.ptb_explore.proofs.Order.{begins_from, begins_is}
 use Rattle.ptb_explore.proofs.Tree.{run_apart, run_asks, run_open, tree_rises, tree_runs}

@@ -1,6 +1,4 @@
 -- This file defines plans: the first answers of the next run, which continues with the least answers.
---     IsPlan play under front plan                what continues from the plan with ones and is a run is the next run
---                                                 that is left
 --     IsLastBelow floor answers bounds i          the last answer from a place on that can be raised is the one at i
 --     PlansNext under position answers bounds plan o    the plan raises that answer by one and drops those after it;
 --                                                       `under` stays
@@ -25,16 +23,11 @@ use Rattle.ptb_explore.specs.declared.plan.ListingPosition.{ListingPosition}
 use Rattle.ptb_explore.specs.declared.plan.ListingPosition.TheVariants.{AtStart, AtRun, AtEnd}
 use Rattle.ptb_explore.specs.declared.recorder.Recorder.{Recorder}
 use Rattle.ptb_explore.specs.MarkedRuns.{states_bounds}
-use Rattle.ptb_machine.specs.RunTree.{Front, Start, At, End, IsRun, IsNextRun, begins_with}
+use Rattle.ptb_machine.specs.RunTree.{Front, Start, At, End, IsRun, begins_with}
 
 -- each answer is 1
 abbrev pub AllOnes : Answers → Type 0
 AllOnes answers = AllByRecursion (λ k. k ≡ pos 1) answers
-
-pub record IsPlan {A W : Type 0} (play : Answers → Outcome A W) (under : Answers) (front : Front)
-    (plan : Answers) : Type 0 where
-  pub opens : is_open (play plan) ≡ true
-  pub next : (ones : Answers) → AllOnes ones → IsRun play (plan ++ ones) → IsNextRun play under front (plan ++ ones)
 
 -- ---- which plan comes next
 

@@ -32,8 +32,8 @@ use Rattle.ptb_machine.specs.PlainRuns.{ShowsRun, lines_come, ShowsUnread, endin
 use Rattle.ptb_machine.specs.PlainRuns.{lines_wanted, ReadsFor}
 use Rattle.ptb_machine.specs.Streams.{Reads, Writes, reads_of}
 use Rattle.ptb_serve.specs.Replies.{Reply, refusal, run_reply, program_of_text, reply_or_refusal, program_reply}
-use Rattle.ptb_serve.specs.ServedRequests.{outcome_of, EndsUnread, IsCheck, IsPlainRun, ReadsBy}
-use Rattle.ptb_serve.specs.ServedRequests.{outcome_wanted, wanted_by, load_note, AsksForMore, IsUnloaded}
+use Rattle.ptb_serve.specs.ServedRequests.{outcome_of, EndsUnread, IsCheck, IsPlainRun, ReadsByNote}
+use Rattle.ptb_serve.specs.ServedRequests.{note_wanted, note_wanted_by, load_note, AsksForMore, IsUnloaded}
 use Rattle.ptb_serve.specs.ServedRequests.{ListsFewerOf, ReadsForRun, Replies, SamplesFewerOf, Serves}
 use Rattle.ptb_serve.specs.ServedRequests.{SilentBy, SilentWithoutMemory, SplitsFewerOf, StopsForMemory}
 use Rattle.ptb_serve.specs.ServedRequests.{ReportsLength, ReportsRefusal, load_fault_note, seeded_taken}
@@ -418,6 +418,19 @@ module _ (memory : ℕ) (choose : Option ℤ) (run : StoredProgram → List (Lis
       )
 
 -- ---- what is taken of the input
+
+-- how many lines a run wanted that takes k
+abbrev pub outcome_wanted : ℕ → Outcome → ℕ
+outcome_wanted k outcome = note_wanted k outcome.note outcome.status
+
+-- the same, of all lines
+abbrev wanted_by : Option ℤ → ℕ → ℕ → Outcome → ℕ
+wanted_by choose all k outcome = note_wanted_by choose all k outcome.note outcome.status
+
+-- what is read of the input, by the outcome of a run that takes so many lines
+abbrev pub ReadsBy : Request → (StoredProgram → List (List ℕ) → ℕ) → List ℕ → List ℕ → Option (List ℕ) → Outcome
+    → Type 0
+ReadsBy request count b c left outcome = ReadsByNote request count b c left outcome.note outcome.status
 
 -- where nothing was taken
 reads_nothing : (request : Request) (count : StoredProgram → List (List ℕ) → ℕ) (b : List ℕ) (known : Option (List ℕ))

@@ -13,7 +13,7 @@
 --                                       was refused
 --     EndsUnread choose reply others old new    what was written of the reply to a run that couldn't read a line
 --     ServesUnread mode ..              what was written where the input could not be read
---     wanted_by choose all k outcome    how many of all lines a run wanted that takes k
+--     note_wanted_by choose all k note status    how many of all lines a run wanted that takes k
 --     ReadsForRun mode ..               what a run takes of its input
 --     IsPlainRun mode                   the program is run once
 --     IsCheck mode                      its mistakes are listed
@@ -274,16 +274,10 @@ note_wanted k None number = if number == status endings.NoInput then k + 1 else 
 note_wanted k (Some notes.InputUnread) number = k + 1
 note_wanted k (Some note) number = k
 
-abbrev pub outcome_wanted : ℕ → Outcome → ℕ
-outcome_wanted k outcome = note_wanted k outcome.note outcome.status
-
 -- with answers instead of lines, a run that takes all lines may want one more
 abbrev pub note_wanted_by : Option ℤ → ℕ → ℕ → Option Note → ℕ → ℕ
 note_wanted_by None all k note number = note_wanted k note number
 note_wanted_by (Some n) all k note number = if k == all then k + 1 else note_wanted k note number
-
-abbrev pub wanted_by : Option ℤ → ℕ → ℕ → Outcome → ℕ
-wanted_by choose all k outcome = note_wanted_by choose all k outcome.note outcome.status
 
 -- how many of the lines of its input a run by a seed takes
 abbrev pub seeded_taken : ℕ → StoredProgram → List (List ℕ) → Rules → ℕ
@@ -296,10 +290,6 @@ ReadsByNote request count b c left note number =
     IfOk (program_of_text request.memory b) (λ p. (taken : List ℕ) × Consumes (Some c) left taken
     × ReadsFor taken (note_wanted_by request.rules.choose (length (input_lines c))
     (count (record { lines = p; memory = request.memory }) (input_lines c)) note number))
-
-abbrev pub ReadsBy : Request → (StoredProgram → List (List ℕ) → ℕ) → List ℕ → List ℕ → Option (List ℕ) → Outcome
-    → Type 0
-ReadsBy request count b c left outcome = ReadsByNote request count b c left outcome.note outcome.status
 
 abbrev pub ReadsInMode : Mode → Request → List ℕ → List ℕ → Option (List ℕ) → Option Note → ℕ → Type 0
 ReadsInMode (modes.Plain a) request b c left note number =
