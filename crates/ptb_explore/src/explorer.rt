@@ -66,8 +66,8 @@ impl<'a> Explorer<'a> {
     /// # Errors
     ///
     /// Where a growth was refused memory, never where no run is left. Its place is unchanged then, no
-    /// copy of the machine is kept, and a further call looks for that run once more. The commands that
-    /// were played count in [`played`](Explorer::played).
+    /// copy of the machine is kept, and a further call looks for that run once more. What
+    /// [`played`](Explorer::played) gives doesn't fall then, and rises by less than 4,294,967,296.
     pub fn next(&mut self) -> Result<Option<&Report>, AllocError>
         ensures report { IfOk result (λ o. IfSome o (λ r. Reports (play_of self.old) r.now)) }
         ensures next { IfOk result (λ o. IfSome o (λ r.
@@ -115,10 +115,8 @@ impl<'a> Explorer<'a> {
         self.runner.copies.kept.len()
     }
 
-    /// How many commands were played, in all runs so far and in those that were refused memory;
-    /// `u64::MAX` where there were more.
-    ///
-    /// For users of the library: the program doesn't call it.
+    /// How many commands were played for the runs so far; `u64::MAX` where there were more. A call of
+    /// [`next`](Explorer::next) that is refused memory adds fewer than 4,294,967,296.
     pub fn played(&self) -> u64
         ensures { result ≡ self.now.played }
     {
