@@ -12,7 +12,7 @@ use Rattle.ptb_explore.proofs.WrittenTexts.{on_err_always}
 use Rattle.ptb_explore.proofs.Exits.{on_some_at}
 use Rattle.ptb_explore.proofs.ContinuedCopies.{next_agrees, next_played, position_copies}
 use Rattle.ptb_explore.proofs.Mismatches.{if_some_at}
-use Rattle.ptb_explore.proofs.Next.{IsPlan}
+use Rattle.ptb_explore.proofs.NextRuns.{IsPlan}
 use Rattle.ptb_explore.proofs.RaisedAnswers.{next_plan, last_plan, plan_ends}
 use Rattle.ptb_explore.proofs.Shares.{plan_left}
 use Rattle.ptb_explore.proofs.runner.Runner.report_next.Goals as goal
