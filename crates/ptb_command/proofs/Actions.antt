@@ -5,8 +5,8 @@ use Rattle.ptb_expr.specs.declared.fault.Fault.{Fault}
 use Rattle.ptb_expr.specs.declared.fault.FaultKind.{FaultKind}
 use Rattle.ptb_expr.specs.Store.{Cells}
 use Rattle.ptb_expr.specs.Value.{Work, fault, or_fault}
-use Rattle.ptb_command.specs.declared.stop.Stop.{Stop}
-use Rattle.ptb_command.specs.declared.stop.Stop.TheVariants as stops
+use Rattle.ptb_command.specs.declared.stop.CommandStop.{CommandStop}
+use Rattle.ptb_command.specs.declared.stop.CommandStop.TheVariants as stops
 use Rattle.ptb_command.specs.Actions.{Faults, Halt, Action, and_then, goes_on, halt, show, attempt}
 use Rattle.ptb_command.specs.Actions.{or_halt, work_action}
 use Rattle.ptb_command.specs.Devices.{Refusal, nothing_refused}
@@ -45,21 +45,22 @@ refines_part_on next m = refines_part_under next m
 
 -- where it stops, what comes next is not done
 pub stops_first : {A B : Type 0} (refused : Refusal → Type 0) (o n : Trace) (f : Action A) (next : A → Action B)
-    → ((x : A) → Adds (next x)) → (e : Stop) → Stops refused (RefinesPartTo o n f) n.devices e
+    → ((x : A) → Adds (next x)) → (e : CommandStop) → Stops refused (RefinesPartTo o n f) n.devices e
     → Stops refused (RefinesPartTo o n (and_then f next)) n.devices e
 stops_first refused o n f next adds e h = stops_under refused o n f next adds e h
 
 -- where nothing is refused, nothing is refused by anybody
-pub stops_unrefused : {A : Type 0} (refused : Refusal → Type 0) (o n : Trace) (f : Action A) (e : Stop)
+pub stops_unrefused : {A : Type 0} (refused : Refusal → Type 0) (o n : Trace) (f : Action A) (e : CommandStop)
     → Stops nothing_refused (RefinesPartTo o n f) n.devices e → Stops refused (RefinesPartTo o n f) n.devices e
 stops_unrefused refused o n f e h = stops_more nothing_refused refused (λ r x. absurd x) o n f e h
 
 -- a fault
-pub stops_fault : {A : Type 0} (refused : Refusal → Type 0) (o n : Trace) (f : Action A) (e : Stop) (x : Fault)
+pub stops_fault : {A : Type 0} (refused : Refusal → Type 0) (o n : Trace) (f : Action A) (e : CommandStop) (x : Fault)
     → e ≡ stops.Fault x → RefinesPart o n f (halt (Faults x))
     → Stops refused (RefinesPartTo o (with_pending (still_pending n.pending e) n) f) n.devices e
 stops_fault refused o n f e x k m =
-    subst (λ (y : Stop). Stops refused (RefinesPartTo o (with_pending (still_pending n.pending y) n) f) n.devices y)
+    subst
+    (λ (y : CommandStop). Stops refused (RefinesPartTo o (with_pending (still_pending n.pending y) n) f) n.devices y)
     (sym k)
     (stops_pending refused o n f (stops.Fault x) refl m)
 

@@ -5,7 +5,7 @@ use Rattle.ptb_expr.specs.declared.store.Target.{Target}
 use Rattle.ptb_expr.specs.Store.{Cells}
 use Rattle.ptb_expr.specs.Tree.{Tree}
 use Rattle.ptb_expr.specs.Value.{value, with_target}
-use Rattle.ptb_command.specs.declared.stop.Stop.{Stop}
+use Rattle.ptb_command.specs.declared.stop.CommandStop.{CommandStop}
 use Rattle.ptb_command.specs.Commands.{Part, Assign}
 use Rattle.ptb_command.specs.State.{State}
 use Rattle.ptb_command.specs.Actions.{Action, and_then, goes_on}
@@ -81,7 +81,7 @@ module _ (rest : List Part) (w : ℕ) (operands : List ℤ) where
       (subst (λ (z : ℤ). RefinesPart k n (store at z) (goes_on tt)) e s))
 
   -- its variable stops it
-  pub assign_target_stops : (refused : Refusal → Type 0) (o n : Trace) (x y : Tree) (e : Stop)
+  pub assign_target_stops : (refused : Refusal → Type 0) (o n : Trace) (x y : Tree) (e : CommandStop)
       → Stops refused (RefinesPartTo o n (target_action x)) n.devices e
       → Stops refused (RefinesPartTo o n (parts_action (Assign x y ∷ rest) w operands)) n.devices e
   unfolding parts_action value_next store_next
@@ -89,7 +89,8 @@ module _ (rest : List Part) (w : ℕ) (operands : List ℤ) where
       stops_first refused o n (target_action x) (value_next y) (value_next_adds y) e h
 
   -- its value stops it
-  pub assign_value_stops : (refused : Refusal → Type 0) {o m : Trace} (n : Trace) (x y : Tree) (at : Target) (e : Stop)
+  pub assign_value_stops : (refused : Refusal → Type 0) {o m : Trace} (n : Trace) (x y : Tree) (at : Target)
+      (e : CommandStop)
       → RefinesPart o m (target_action x) (goes_on at) → Stops refused (RefinesPartTo m n (value_action y)) n.devices e
       → Stops refused (RefinesPartTo o n (parts_action (Assign x y ∷ rest) w operands)) n.devices e
   unfolding value_next

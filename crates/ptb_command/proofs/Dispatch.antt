@@ -7,7 +7,7 @@ use Rattle.ptb_answers.specs.declared.pause.Pause.{Pause}
 use Rattle.ptb_answers.specs.Choices.{Choices}
 use Rattle.ptb_text.specs.declared.device_fault.DeviceFault.{DeviceFault}
 use Rattle.ptb_command.specs.declared.location.Location.{Location}
-use Rattle.ptb_command.specs.declared.stop.Stop.{Stop}
+use Rattle.ptb_command.specs.declared.stop.CommandStop.{CommandStop}
 use Rattle.ptb_command.specs.Commands.{command_of, parts_of}
 use Rattle.ptb_command.specs.State.{Place}
 use Rattle.ptb_command.specs.Actions.{Action}
@@ -35,14 +35,14 @@ answers_refused refused unread lines NoLine h = absurd h
 -- ---- commands
 
 acts_more : {X : Type 0} (refused others : Refusal → Type 0) → ((r : Refusal) → refused r → others r)
-    → (p : Statements) (m n : Configuration) (o d : Devices) (f : Action (Unit {0})) (r : Result X Stop)
+    → (p : Statements) (m n : Configuration) (o d : Devices) (f : Action (Unit {0})) (r : Result X CommandStop)
     → Acts refused p m n o d f r → Acts others p m n o d f r
 acts_more refused others more p m n o d f (Ok x) a = a
 acts_more refused others more p m n o d f (Err e) a =
     stops_along refused others more (RefinesTo p m n o f) (RefinesTo p m n o f) (λ k g b. b) d e a
 
 pub acts_word : {X : Type 0} (refused : Refusal → Type 0) (p : Statements) (m n : Configuration) (o d : Devices)
-    (q : Place) (t : List ℕ) (i : ℕ) (word v : Word) (r : Result X Stop)
+    (q : Place) (t : List ℕ) (i : ℕ) (word v : Word) (r : Result X CommandStop)
     → word ≡ v → Acts refused p m n o d (command_action p q (command_of v (parts_of v t i))) r
     → Acts refused p m n o d (command_action p q (command_of word (parts_of word t i))) r
 acts_word refused p m n o d q t i word v r e a =
@@ -52,7 +52,7 @@ acts_word refused p m n o d q t i word v r e a =
 pub acts_alone : {X : Type 0} (refused others : Refusal → Type 0) → ((r : Refusal) → refused r → others r)
     → (p : Statements) (m n : Configuration) (o : Devices) (choices : Choices) (screen : ScreenState)
     (most : ℕ) (choose : Option ℤ) (before : List (List ℕ)) (q : Place) (t : List ℕ) (i : ℕ) (word v : Word)
-    (r : Result X Stop)
+    (r : Result X CommandStop)
     → word ≡ v
     → Acts refused p m n o (devices choices screen most choose before)
     (command_action p q (command_of v (parts_of v t i))) r

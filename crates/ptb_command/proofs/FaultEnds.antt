@@ -2,8 +2,8 @@
 -- Main lemma: `done_fault`.
 use Rattle.std.proofs.Common.{◌≡◌, refl, sym, subst}
 use Rattle.ptb_text.specs.Statements.{Statements}
-use Rattle.ptb_command.specs.declared.stop.Stop.{Stop}
-use Rattle.ptb_command.specs.declared.stop.Stop.TheVariants as stops
+use Rattle.ptb_command.specs.declared.stop.CommandStop.{CommandStop}
+use Rattle.ptb_command.specs.declared.stop.CommandStop.TheVariants as stops
 use Rattle.ptb_command.specs.Actions.{Faults, Action, halt}
 use Rattle.ptb_command.specs.Devices.{Devices, Refusal}
 use Rattle.ptb_command.specs.Stops.{Stops}
@@ -20,6 +20,6 @@ alike_itself m = record { place = refl; stack = refl; steps = refl }
 
 -- a fault of a command whose parts were done
 pub done_fault : (refused : Refusal → Type 0) (p : Statements) (m n : Configuration) (o d : Devices)
-    (f : Action (Unit {0})) (s : Stop) (x : _)
+    (f : Action (Unit {0})) (s : CommandStop) (x : _)
     → s ≡ stops.Fault x → Refines p m n o d f (halt (Faults x)) → Stops refused (RefinesTo p m n o f) d s
-done_fault refused p m n o d f s x e a = subst (λ (y : Stop). Stops refused (RefinesTo p m n o f) d y) (sym e) a
+done_fault refused p m n o d f s x e a = subst (λ (y : CommandStop). Stops refused (RefinesTo p m n o f) d y) (sym e) a

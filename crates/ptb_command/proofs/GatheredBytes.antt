@@ -4,8 +4,8 @@ use Rattle.std.proofs.Common.{◌≡◌, Bool, true, false, List, [], ◌++◌, 
 use Rattle.std.proofs.Common.{append_assoc}
 use Rattle.ptb_expr.specs.Store.{Cells}
 use Rattle.ptb_command.specs.declared.ending.Ending.TheVariants as endings
-use Rattle.ptb_command.specs.declared.stop.Stop.{Stop}
-use Rattle.ptb_command.specs.declared.stop.Stop.TheVariants as stops
+use Rattle.ptb_command.specs.declared.stop.CommandStop.{CommandStop}
+use Rattle.ptb_command.specs.declared.stop.CommandStop.TheVariants as stops
 use Rattle.ptb_command.specs.State.{State}
 use Rattle.ptb_command.specs.Actions.{Faults, Ends, Action, goes_on, halt, show}
 use Rattle.ptb_command.specs.Devices.{Devices, Refusal, no_exchange, nothing_refused}
@@ -64,7 +64,7 @@ module _ (d : Devices) (fresh : Bool) (cells : Cells) (pending : List ℕ) where
         (m.leaves S rest f (record { fresh = w.fresh; cells = w.cells; lines = w.lines; choose = w.choose }));
   }
 
-  pub flush_comes : (n : Trace) (r : Result (Unit {0}) Stop)
+  pub flush_comes : (n : Trace) (r : Result (Unit {0}) CommandStop)
       → Comes nothing_refused (trace d fresh cells) n (show pending) goes_on r
       → Comes nothing_refused (with_pending pending (trace d fresh cells)) n idle goes_on r
   flush_comes n (Ok x) h = pending_shown h
@@ -77,7 +77,7 @@ module _ (d : Devices) (fresh : Bool) (cells : Cells) (pending : List ℕ) where
 
 -- nothing is gathered then
 module _ (o : Trace) (d : Devices) (fresh : Bool) (cells : Cells) (pending bytes : List ℕ) (none : pending ≡ []) where
-  pub unflushed : (e : Stop) → Stops nothing_refused (RefinesPartTo o (trace d fresh cells) idle) d e
+  pub unflushed : (e : CommandStop) → Stops nothing_refused (RefinesPartTo o (trace d fresh cells) idle) d e
       → Stops nothing_refused (RefinesPartTo o (with_pending (still_pending pending e) (trace d fresh cells))
       (show bytes)) d e
   unflushed e h =
@@ -90,7 +90,7 @@ module _ (o : Trace) (d : Devices) (fresh : Bool) (cells : Cells) (pending bytes
   flushed_gathered new e a = refines_part_then (refines_part_on (λ u. show bytes) a)
       (gathered (trace d fresh cells) [] new bytes (e ∙ ap (λ (x : List ℕ). x ++ bytes) none))
 
-  pub flushed_shown : (new : List ℕ) → new ≡ pending → (l : Devices) (now : Bool) (r : Result (Unit {0}) Stop)
+  pub flushed_shown : (new : List ℕ) → new ≡ pending → (l : Devices) (now : Bool) (r : Result (Unit {0}) CommandStop)
       → RefinesPart o (trace d fresh cells) idle idle
       → Comes nothing_refused (trace d fresh cells) (trace l now cells) (show bytes) goes_on r
       → Comes nothing_refused o (with_pending new (trace l now cells)) (show bytes) goes_on r
@@ -103,7 +103,7 @@ module _ (o : Trace) (d : Devices) (fresh : Bool) (cells : Cells) (pending bytes
 
 -- where nothing more is shown
 pub unfinished : {A X : Type 0} (refused : Refusal → Type 0) (o : Trace) (d : Devices) (fresh : Bool) (cells : Cells)
-    (pending : List ℕ) (f : Action A) (ok : X → Action A) (r : Result X Stop)
+    (pending : List ℕ) (f : Action A) (ok : X → Action A) (r : Result X CommandStop)
     → still_shows r ≡ false → Comes refused o (with_pending pending (trace d fresh cells)) f ok r
     → Comes refused o (trace d fresh cells) f ok r
 unfinished refused o d fresh cells pending f ok (Ok x) k h = cc
@@ -112,14 +112,14 @@ unfinished refused o d fresh cells pending f ok (Err e) k h =
     (pending_goes pending e k) h
 
 module _ {A X : Type 0} (refused : Refusal → Type 0) (o m : Trace) (f : Action A) (ok : X → Action A) where
-  stop_there : (e : Stop) → still_shows {X = X} (Err e) ≡ true → Comes refused o m f ok (Err e)
+  stop_there : (e : CommandStop) → still_shows {X = X} (Err e) ≡ true → Comes refused o m f ok (Err e)
       → Stops refused (RefinesPartTo o m f) m.devices e
   stop_there e k h = subst (λ (x : List ℕ). Stops refused (RefinesPartTo o (with_pending x m) f) m.devices e)
       (pending_stays m.pending e k) h
 
   -- what was gathered is shown
   pub finished : (d : Devices) (fresh : Bool) (cells : Cells) → RefinesPart m (trace d fresh cells) idle idle
-      → (r : Result X Stop) → still_shows r ≡ true → Comes refused o m f ok r
+      → (r : Result X CommandStop) → still_shows r ≡ true → Comes refused o m f ok r
       → Comes refused o (trace d fresh cells) f ok r
   finished d fresh cells a (Ok x) k h = refines_part_then h (refines_part_on (λ u. ok x) a)
   finished d fresh cells a (Err (stops.Fault x)) k h =
@@ -143,13 +143,13 @@ module _ {A X : Type 0} (refused : Refusal → Type 0) (o m : Trace) (f : Action
   finished d fresh cells a (Err stops.Unwritten) k h = cc
 
   -- the screen breaks
-  module _ (n : Trace) (adds : (x : X) → Adds (ok x)) (e : Stop)
+  module _ (n : Trace) (adds : (x : X) → Adds (ok x)) (e : CommandStop)
       (s : Stops nothing_refused (RefinesPartTo m n idle) n.devices e) where
     breaks_before : (g : Action A) → Adds g → RefinesPart o m f g → Stops refused (RefinesPartTo o n f) n.devices e
     breaks_before g goes h = stops_after refused n h e
         (stops_unrefused refused m n g e (stops_first nothing_refused m n idle (λ u. g) (λ u. goes) e s))
 
-    pub finish_breaks : (r : Result X Stop) → still_shows r ≡ true → Comes refused o m f ok r
+    pub finish_breaks : (r : Result X CommandStop) → still_shows r ≡ true → Comes refused o m f ok r
         → Stops refused (RefinesPartTo o n f) n.devices e
     finish_breaks (Ok x) k h = breaks_before (ok x) (adds x) h
     finish_breaks (Err (stops.Fault x)) k h =

@@ -26,8 +26,8 @@ use Rattle.ptb_text.specs.declared.device_fault.DeviceFault.TheVariants as reads
 use Rattle.ptb_devices.specs.Sources.{IsSourceFault}
 use Rattle.ptb_command.specs.Breakage.{Breakage}
 use Rattle.ptb_command.specs.Breakage as errors
-use Rattle.ptb_command.specs.declared.stop.Stop.{Stop}
-use Rattle.ptb_command.specs.declared.stop.Stop.TheVariants as stops
+use Rattle.ptb_command.specs.declared.stop.CommandStop.{CommandStop}
+use Rattle.ptb_command.specs.declared.stop.CommandStop.TheVariants as stops
 use Rattle.ptb_command.specs.Commands.{Part, Take}
 use Rattle.ptb_command.specs.State.{State}
 use Rattle.ptb_command.specs.Actions.{Ends, Progress, Goes, Halts, Action, on_progress, and_then}
@@ -80,13 +80,13 @@ module _ (refused : Pause → ℤ → Type 0) (l : List ℕ) (c e : Choices) (d 
       (subst (λ (x : NoValue). WorkComes refused (value cells (item_of (expression l 0))) c e (Err x)) k h)
 
   pub line_pauses : (s : NoValue) (z : Pause) → s ≡ values.Pause z
-      → WorkComes refused (value cells (item_of (expression l 0))) c e (Err s) → (k : Stop)
+      → WorkComes refused (value cells (item_of (expression l 0))) c e (Err s) → (k : CommandStop)
       → k ≡ stop_of (values.Pause z)
       → Stops (refused_answers refused) (RefinesPartTo (with_pending pending (trace (with_choices c d) fresh cells))
       (with_pending (still_pending pending k) (trace (with_choices e d) fresh cells)) (line_value l))
       (with_choices e d) k
   line_pauses s z p h k q =
-      subst (λ (x : Stop). Stops (refused_answers refused)
+      subst (λ (x : CommandStop). Stops (refused_answers refused)
       (RefinesPartTo (with_pending pending (trace (with_choices c d) fresh cells))
       (with_pending (still_pending pending x)
       (trace (with_choices e d) fresh cells)) (line_value l)) (with_choices e d) x) (sym q)
@@ -169,7 +169,7 @@ module _ (n : ℤ) (at : Target) where
       ∙ ap (λ o. go_on (go_on (map_outcome (λ r. Goes r S) (λ u. S) o) (on_progress or_halt))
       (on_progress (λ v. and_then (show (signed_decimal v ++ newline)) (λ u. store at v)))) (chosen_asks n)
 
-  pub instead_value_stops : (refused : Refusal → Type 0) (o k : Trace) (e : Stop)
+  pub instead_value_stops : (refused : Refusal → Type 0) (o k : Trace) (e : CommandStop)
       → Stops refused (RefinesPartTo o k instead_value) k.devices e
       → Stops refused (RefinesPartTo o k (answer_instead n at)) k.devices e
   unfolding instead_value instead_next
@@ -181,7 +181,8 @@ module _ (n : ℤ) (at : Target) where
   value_then {o = o} {m = m} v u k a =
       refines_part_on instead_next (subst (λ (z : ℤ). RefinesPart o m instead_value (goes_on z)) k a)
 
-  pub instead_digits_stops : (refused : Refusal → Type 0) {o m : Trace} (k : Trace) (v u : ℤ) → u ≡ v → (e : Stop)
+  pub instead_digits_stops : (refused : Refusal → Type 0) {o m : Trace} (k : Trace) (v u : ℤ) → u ≡ v
+      → (e : CommandStop)
       → RefinesPart o m instead_value (goes_on u)
       → Stops refused (RefinesPartTo m k (show (signed_decimal v))) k.devices e
       → Stops refused (RefinesPartTo o k (answer_instead n at)) k.devices e
@@ -191,7 +192,8 @@ module _ (n : ℤ) (at : Target) where
       (stops_first refused m k (show (signed_decimal v ++ newline)) (λ u. store at v) (λ u. store_adds at v) e
       (first_stops (signed_decimal v) newline refused m k e h))
 
-  pub instead_newline_stops : (refused : Refusal → Type 0) {o m l : Trace} (k : Trace) (v u : ℤ) → u ≡ v → (e : Stop)
+  pub instead_newline_stops : (refused : Refusal → Type 0) {o m l : Trace} (k : Trace) (v u : ℤ) → u ≡ v
+      → (e : CommandStop)
       → RefinesPart o m instead_value (goes_on u) → RefinesPart m l (show (signed_decimal v)) (goes_on tt)
       → Stops refused (RefinesPartTo l k (show newline)) k.devices e
       → Stops refused (RefinesPartTo o k (answer_instead n at)) k.devices e
@@ -263,20 +265,20 @@ module _ (said : List ℕ) (x : Tree) (prompt : List ℕ) where
   unfolding prompt_next
   ask_refines_part at a b c = refines_part_then (target_then at a b) (refines_part_on (λ u. goes_on at) c)
 
-  pub ask_said_stops : (refused : Refusal → Type 0) (o n : Trace) (e : Stop)
+  pub ask_said_stops : (refused : Refusal → Type 0) (o n : Trace) (e : CommandStop)
       → Stops refused (RefinesPartTo o n (show said)) n.devices e
       → Stops refused (RefinesPartTo o n (ask_for said x prompt)) n.devices e
   unfolding target_next prompt_next
   ask_said_stops refused o n e h = stops_first refused o n (show said) (λ u. target_next) (λ u. target_next_adds) e h
 
-  pub ask_target_stops : (refused : Refusal → Type 0) {o m : Trace} (n : Trace) (e : Stop)
+  pub ask_target_stops : (refused : Refusal → Type 0) {o m : Trace} (n : Trace) (e : CommandStop)
       → RefinesPart o m (show said) (goes_on tt) → Stops refused (RefinesPartTo m n (target_action x)) n.devices e
       → Stops refused (RefinesPartTo o n (ask_for said x prompt)) n.devices e
   unfolding target_next
   ask_target_stops refused {m = m} n e a h = stops_after refused n (said_first a) e
       (stops_first refused m n (target_action x) prompt_next prompt_next_adds e h)
 
-  ask_prompt_stops : (refused : Refusal → Type 0) {o m k : Trace} (n : Trace) (at : Target) (e : Stop)
+  ask_prompt_stops : (refused : Refusal → Type 0) {o m k : Trace} (n : Trace) (at : Target) (e : CommandStop)
       → RefinesPart o m (show said) (goes_on tt) → RefinesPart m k (target_action x) (goes_on at)
       → Stops refused (RefinesPartTo k n (show prompt)) n.devices e
       → Stops refused (RefinesPartTo o n (ask_for said x prompt)) n.devices e
@@ -287,7 +289,7 @@ module _ (said : List ℕ) (x : Tree) (prompt : List ℕ) where
 
   -- a prompt whose text is known before its colon
   module _ (name : List ℕ) (is : prompt ≡ name ++ 58 ∷ []) where
-    pub ask_known_stops : (refused : Refusal → Type 0) {o m k : Trace} (n : Trace) (at : Target) (e : Stop)
+    pub ask_known_stops : (refused : Refusal → Type 0) {o m k : Trace} (n : Trace) (at : Target) (e : CommandStop)
         → RefinesPart o m (show said) (goes_on tt) → RefinesPart m k (target_action x) (goes_on at)
         → Stops refused (RefinesPartTo k n (show (name ++ 58 ∷ []))) n.devices e
         → Stops refused (RefinesPartTo o n (ask_for said x prompt)) n.devices e
@@ -405,7 +407,7 @@ module _ (said : List ℕ) (x : Tree) (prompt : List ℕ) where
       (refines_part_on wants a)
 
   -- what is gathered can't be shown before a line is waited for
-  pub flush_stops : (refused : Refusal → Type 0) {o m : Trace} (n : Trace) (at : Target) (e : Stop)
+  pub flush_stops : (refused : Refusal → Type 0) {o m : Trace} (n : Trace) (at : Target) (e : CommandStop)
       → RefinesPart o m (ask_for said x prompt) (goes_on at)
       → Stops refused (RefinesPartTo m n (goes_on (tt {0}))) n.devices e
       → Stops refused (RefinesPartTo o n (item_action said x prompt)) n.devices e
@@ -413,7 +415,7 @@ module _ (said : List ℕ) (x : Tree) (prompt : List ℕ) where
       (stops_first refused m n (goes_on (tt {0})) (λ u. wants at) (λ u. wants_adds at) e h)
 
   -- it stops before
-  pub take_ask_stops : (refused : Refusal → Type 0) (o n : Trace) (e : Stop)
+  pub take_ask_stops : (refused : Refusal → Type 0) (o n : Trace) (e : CommandStop)
       → Stops refused (RefinesPartTo o n (ask_for said x prompt)) n.devices e
       → Stops refused (RefinesPartTo o n (item_action said x prompt)) n.devices e
   take_ask_stops refused o n e h =
@@ -550,7 +552,7 @@ module _ (said : List ℕ) (x : Tree) (prompt : List ℕ) where
   unfolding line_next
   line_refines_part at l a b = refines_part_on (λ u. worth at l) (both_move l newline a b)
 
-  worth_stops : (refused : Refusal → Type 0) (o n : Trace) (at : Target) (l : List ℕ) (e : Stop)
+  worth_stops : (refused : Refusal → Type 0) (o n : Trace) (at : Target) (l : List ℕ) (e : CommandStop)
       → Stops refused (RefinesPartTo o n (line_value l)) n.devices e
       → Stops refused (RefinesPartTo o n (worth at l)) n.devices e
   unfolding worth
@@ -573,7 +575,8 @@ module _ (said : List ℕ) (x : Tree) (prompt : List ℕ) where
       (subst (λ (s : List ℕ). RefinesPart m n (show s) (goes_on tt)) k b))
 
   -- where it stops, once it is shown
-  pub line_worth_stops : (refused : Refusal → Type 0) {o m k : Trace} (n : Trace) (at : Target) (l : List ℕ) (e : Stop)
+  pub line_worth_stops : (refused : Refusal → Type 0) {o m k : Trace} (n : Trace) (at : Target) (l : List ℕ)
+      (e : CommandStop)
       → RefinesPart o m (show l) (goes_on tt) → RefinesPart m k (show newline) (goes_on tt)
       → Stops refused (RefinesPartTo k n (line_value l)) n.devices e
       → Stops refused (RefinesPartTo o n (line_left at l)) n.devices e
@@ -618,7 +621,8 @@ module _ (rest : List Part) (w : ℕ) (operands : List ℤ) where
   unfolding parts_action
   take_refines_part said x prompt a = refines_part_on (λ u. parts_action rest w operands) a
 
-  pub take_stops : (refused : Refusal → Type 0) (o n : Trace) (said : List ℕ) (x : Tree) (prompt : List ℕ) (e : Stop)
+  pub take_stops : (refused : Refusal → Type 0) (o n : Trace) (said : List ℕ) (x : Tree) (prompt : List ℕ)
+      (e : CommandStop)
       → Stops refused (RefinesPartTo o n (item_action said x prompt)) n.devices e
       → Stops refused (RefinesPartTo o n (parts_action (Take said x prompt ∷ rest) w operands)) n.devices e
   unfolding parts_action
@@ -628,7 +632,8 @@ module _ (rest : List Part) (w : ℕ) (operands : List ℤ) where
   -- all its results
   pub take_comes : {X : Type 0} (refused : Refusal → Type 0) (o n : Trace) (said : List ℕ) (x : Tree) (prompt : List ℕ)
       (p : Part)
-      → p ≡ Take said x prompt → (r : Result X Stop) → Comes refused o n (item_action said x prompt) (λ u. goes_on tt) r
+      → p ≡ Take said x prompt → (r : Result X CommandStop)
+      → Comes refused o n (item_action said x prompt) (λ u. goes_on tt) r
       → Comes refused o n (parts_action (p ∷ rest) w operands) (λ u. parts_action rest w operands) r
   take_comes refused o n said x prompt p k (Ok y) h =
       refines_part_part rest w operands p (Take said x prompt) k (take_refines_part said x prompt h)

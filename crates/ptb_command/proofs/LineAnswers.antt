@@ -10,8 +10,8 @@ use Rattle.ptb_answers.specs.declared.pause.Pause.{Pause}
 use Rattle.ptb_expr.specs.declared.store.Target.{Target}
 use Rattle.ptb_expr.specs.Store.{Cells}
 use Rattle.ptb_expr.specs.Tree.{Tree}
-use Rattle.ptb_command.specs.declared.stop.Stop.{Stop}
-use Rattle.ptb_command.specs.declared.stop.Stop.TheVariants as stops
+use Rattle.ptb_command.specs.declared.stop.CommandStop.{CommandStop}
+use Rattle.ptb_command.specs.declared.stop.CommandStop.TheVariants as stops
 use Rattle.ptb_command.specs.Act.{answer_instead, ask_for}
 use Rattle.ptb_command.specs.Actions.{Action, goes_on}
 use Rattle.ptb_command.specs.Act.{item_action}
@@ -45,7 +45,8 @@ module _ (said : List ℕ) (x : Tree) (prompt : List ℕ) {i o : Trace}
     (was : RefinesPart i o (item_action said x prompt) (item_action said x prompt)) where
   -- it stops before a line is wanted
   pub answering_stops : {X : Type 0} (answers : Pause → ℤ → Type 0) (unread : DeviceFault → Type 0)
-      (lines : Option (List (List ℕ))) (n : Trace) (ok : X → Action (Unit {0})) (r : Result X Stop) (e : Stop)
+      (lines : Option (List (List ℕ))) (n : Trace) (ok : X → Action (Unit {0})) (r : Result X CommandStop)
+      (e : CommandStop)
       → IsErrAnd r (λ y. y ≡ e)
       → Stops (refused_answers answers) (RefinesPartTo o (with_pending (still_pending n.pending e) n)
       (ask_for said x prompt))
@@ -62,7 +63,7 @@ module _ (said : List ℕ) (x : Tree) (prompt : List ℕ) {i o : Trace}
   -- what is gathered before a line is waited for can't be shown
   pub answering_unshown : {X : Type 0} (answers : Pause → ℤ → Type 0) (unread : DeviceFault → Type 0)
       (lines : Option (List (List ℕ))) {m : Trace} (n : Trace) (at : Target) (ok : X → Action (Unit {0}))
-      (r : Result X Stop) (e : Stop)
+      (r : Result X CommandStop) (e : CommandStop)
       → IsErrAnd r (λ y. y ≡ e) → RefinesPart o m (ask_for said x prompt) (goes_on at)
       → Stops nothing_refused (RefinesPartTo m (with_pending (still_pending n.pending e) n) (goes_on (tt {0})))
       n.devices e
@@ -78,7 +79,7 @@ module _ (said : List ℕ) (x : Tree) (prompt : List ℕ) {i o : Trace}
   module _ {m : Trace} (at : Target) (comes : RefinesPart o m (ask_for said x prompt) (goes_on at)) (most : ℕ) where
     -- the source fails
     pub answering_unread : {X : Type 0} (answers : Pause → ℤ → Type 0) (unread : DeviceFault → Type 0)
-        (lines : Option (List (List ℕ))) (ok : X → Action (Unit {0})) (r : Result X Stop) (f : DeviceFault)
+        (lines : Option (List (List ℕ))) (ok : X → Action (Unit {0})) (r : Result X CommandStop) (f : DeviceFault)
         → IsErrAnd r (λ y. y ≡ stop_of_device f) → m.pending ≡ [] → most ≤ m.devices.most
         → (line : Result (Option (Bor (List ℕ))) DeviceFault) → line ≡ Err f → IfErr line IsSourceFault
         → IfErr line unread
@@ -114,7 +115,7 @@ module _ (said : List ℕ) (x : Tree) (prompt : List ℕ) {i o : Trace}
       -- an answer is asked for instead
       pub answering_instead : (answers : Pause → ℤ → Type 0) (unread : DeviceFault → Type 0)
           (lines : Option (List (List ℕ))) (n : Trace) (bound : ℤ)
-          → m.devices.choose ≡ Some bound → (r : Result (Unit {0}) Stop)
+          → m.devices.choose ≡ Some bound → (r : Result (Unit {0}) CommandStop)
           → Comes (refused_answers answers) (with_most most m) n (answer_instead bound at) (λ u. goes_on tt) r
           → Comes (refused_by answers unread lines) i n (item_action said x prompt) (λ u. goes_on tt) r
       answering_instead answers unread lines n bound choose r h =
@@ -138,7 +139,8 @@ module _ (said : List ℕ) (x : Tree) (prompt : List ℕ) {i o : Trace}
 
       -- a device fails, or a question is refused, before the item is done
       pub answering_fails : {X : Type 0} (answers : Pause → ℤ → Type 0) (unread : DeviceFault → Type 0)
-          (lines : Option (List (List ℕ))) (n : Trace) (ok : X → Action (Unit {0})) (r : Result X Stop) (e : Stop)
+          (lines : Option (List (List ℕ))) (n : Trace) (ok : X → Action (Unit {0})) (r : Result X CommandStop)
+          (e : CommandStop)
           → IsErrAnd r (λ y. y ≡ e)
           → Stops (refused_answers answers)
           (RefinesPartTo (with_given given (with_most most m)) (with_pending (still_pending n.pending e) n) left)

@@ -8,8 +8,8 @@ use Rattle.std.specs.Result.{IsErrAnd}
 use Rattle.std.proofs.lemmas.Result.{err_from_is_err_and}
 use Rattle.ptb_text.specs.declared.device_fault.DeviceFault.{DeviceFault}
 use Rattle.ptb_devices.specs.Sources.{given_lines}
-use Rattle.ptb_command.specs.declared.stop.Stop.{Stop}
-use Rattle.ptb_command.specs.declared.stop.Stop.TheVariants as stops
+use Rattle.ptb_command.specs.declared.stop.CommandStop.{CommandStop}
+use Rattle.ptb_command.specs.declared.stop.CommandStop.TheVariants as stops
 use Rattle.ptb_command.specs.Stops.{still_shows, Miss, NoMiss, LineMiss, MemoryMiss, UnlessMissed}
 use Rattle.ptb_command.specs.Stops.{stop_miss, miss_of, NotMissed}
 
@@ -20,14 +20,15 @@ module _ (refused : DeviceFault → Type 0) (P : Type 0) where
   miss_unmissed p LineMiss = tt
   miss_unmissed p MemoryMiss = inl p
 
-  pub stop_unmissed : P → (e : Stop) → UnlessMissed refused P (stop_miss e)
+  pub stop_unmissed : P → (e : CommandStop) → UnlessMissed refused P (stop_miss e)
   stop_unmissed p e = miss_unmissed p (stop_miss e)
 
-  pub unmissed : {X : Type 0} → P → (r : Result X Stop) → UnlessMissed refused P (miss_of r)
+  pub unmissed : {X : Type 0} → P → (r : Result X CommandStop) → UnlessMissed refused P (miss_of r)
   unmissed p r = miss_unmissed p (miss_of r)
 
   -- where what is gathered is still shown
-  pub missed_none : {X : Type 0} (r : Result X Stop) → still_shows r ≡ true → UnlessMissed refused P (miss_of r) → P
+  pub missed_none : {X : Type 0} (r : Result X CommandStop) → still_shows r ≡ true → UnlessMissed refused P (miss_of r)
+      → P
   missed_none (Ok x) k h = h
   missed_none (Err (stops.Fault f)) k h = h
   missed_none (Err stops.Ended) k h = h
@@ -38,11 +39,11 @@ module _ (refused : DeviceFault → Type 0) (P : Type 0) where
   missed_none (Err stops.Unwritten) k h = cc
 
   -- at the exit of a `?`
-  pub missed_err : {X : Type 0} (r : Result X Stop) (e : Stop) → IsErrAnd r (λ y. y ≡ e)
+  pub missed_err : {X : Type 0} (r : Result X CommandStop) (e : CommandStop) → IsErrAnd r (λ y. y ≡ e)
       → UnlessMissed refused P (stop_miss e) → UnlessMissed refused P (miss_of r)
   missed_err {X = X} r e k h =
       let p = err_from_is_err_and r k in
-      subst (λ (x : Result X Stop). UnlessMissed refused P (miss_of x)) (sym (p.1 ∙ ap Err p.2)) h
+      subst (λ (x : Result X CommandStop). UnlessMissed refused P (miss_of x)) (sym (p.1 ∙ ap Err p.2)) h
 
   -- what follows from it
   module _ (Q : Type 0) (follows : P → Q) where
@@ -97,14 +98,15 @@ given_missed missed s t u line r e h k =
 
 module _ {L : Type 0} (refused : L → DeviceFault → Type 0) (missed most : L → ℕ) (choose : Option ℤ) (s : L) where
   -- no line more was asked for without success
-  pub fewer_missed : {X : Type 0} (t : L) → missed t ≤ missed s → (r : Result X Stop)
+  pub fewer_missed : {X : Type 0} (t : L) → missed t ≤ missed s → (r : Result X CommandStop)
       → UnlessMissed (refused t) (NotMissed choose (missed s) (missed t) (most t)) (miss_of r)
   fewer_missed t h = unmissed (refused t) (NotMissed choose (missed s) (missed t) (most t))
       (not_missed choose (missed s) (missed t) (most t) h)
 
   -- what was gathered before r is still shown, and the source is the same
-  pub shown_missed : {X Y : Type 0} (u t : L) → t ≡ u → (r : Result X Stop) → still_shows r ≡ true
-      → UnlessMissed (refused u) (NotMissed choose (missed s) (missed u) (most u)) (miss_of r) → (q : Result Y Stop)
+  pub shown_missed : {X Y : Type 0} (u t : L) → t ≡ u → (r : Result X CommandStop) → still_shows r ≡ true
+      → UnlessMissed (refused u) (NotMissed choose (missed s) (missed u) (most u)) (miss_of r)
+      → (q : Result Y CommandStop)
       → UnlessMissed (refused t) (NotMissed choose (missed s) (missed t) (most t)) (miss_of q)
   shown_missed u t e r shows h =
       unmissed (refused t) (NotMissed choose (missed s) (missed t) (most t))
@@ -119,7 +121,7 @@ module _ {L : Type 0} (refused : L → DeviceFault → Type 0) (missed most : L 
         (subst (λ (x : Option ℤ). NotMissed x (missed u) (missed t) (most t)) is k)
 
     -- at the exit of a `?`
-    pub missed_out : {X : Type 0} (r : Result X Stop) (e : Stop) → IsErrAnd r (λ y. y ≡ e)
+    pub missed_out : {X : Type 0} (r : Result X CommandStop) (e : CommandStop) → IsErrAnd r (λ y. y ≡ e)
         → UnlessMissed (refused t) (NotMissed b (missed u) (missed t) (most t)) (stop_miss e)
         → UnlessMissed (refused t) (NotMissed choose (missed s) (missed t) (most t)) (miss_of r)
     missed_out r e out k =
@@ -129,7 +131,7 @@ module _ {L : Type 0} (refused : L → DeviceFault → Type 0) (missed most : L 
 
 -- a command that takes no line from the source
 pub alone_missed : {L X : Type 0} (refused : L → DeviceFault → Type 0) (missed most : L → ℕ) (choose : Option ℤ)
-    (s t : L) → t ≡ s → (r : Result X Stop)
+    (s t : L) → t ≡ s → (r : Result X CommandStop)
     → UnlessMissed (refused t) (NotMissed choose (missed s) (missed t) (most t)) (miss_of r)
 alone_missed {L = L} refused missed most choose s t e r =
     subst (λ (u : L). UnlessMissed (refused u) (NotMissed choose (missed s) (missed u) (most u)) (miss_of r)) (sym e)

@@ -4,7 +4,7 @@ use Rattle.std.proofs.Common.{◌≡◌, ℕ, List, ◌∷◌, Result, Ok, Err, 
 use Rattle.std.specs.Prelude.{IfOk}
 use Rattle.std.specs.Result.{IsErrAnd}
 use Rattle.ptb_expr.specs.Tree.{Tree}
-use Rattle.ptb_command.specs.declared.stop.Stop.{Stop}
+use Rattle.ptb_command.specs.declared.stop.CommandStop.{CommandStop}
 use Rattle.ptb_command.specs.Act.{value_action, padded_decimal, parts_action}
 use Rattle.ptb_command.specs.Commands.{Part, Say, Show}
 use Rattle.ptb_command.specs.Actions.{goes_on, show}
@@ -23,7 +23,8 @@ if_ok_never P (Err y) e h = tt
 -- ---- before these parts, with this width and these operands so far
 
 module _ (refused : Refusal → Type 0) (o n : Trace) (rest : List Part) (w : ℕ) (operands : List ℤ) (p : Part) where
-  pub say_comes : (s : List ℕ) → p ≡ Say s → (r : Result (Unit {0}) Stop) → Comes nothing_refused o n (show s) goes_on r
+  pub say_comes : (s : List ℕ) → p ≡ Say s → (r : Result (Unit {0}) CommandStop)
+      → Comes nothing_refused o n (show s) goes_on r
       → Comes refused o n (parts_action (p ∷ rest) w operands) (λ u. parts_action rest w operands) r
   say_comes s e (Ok x) h = refines_part_part rest w operands p _ e (say_refines_part rest w operands s h)
   say_comes s e (Err x) h =
@@ -32,7 +33,7 @@ module _ (refused : Refusal → Type 0) (o n : Trace) (rest : List Part) (w : �
       (say_stops rest w operands refused o k s x (stops_unrefused refused o k _ x h))
 
   pub show_comes : (m : Trace) (x : Tree) (v u : ℤ) → p ≡ Show x → u ≡ v → RefinesPart o m (value_action x) (goes_on v)
-      → (r : Result (Unit {0}) Stop) → Comes nothing_refused m n (show (padded_decimal w u)) goes_on r
+      → (r : Result (Unit {0}) CommandStop) → Comes nothing_refused m n (show (padded_decimal w u)) goes_on r
       → Comes refused o n (parts_action (p ∷ rest) w operands) (λ u. parts_action rest w operands) r
   show_comes m x v u e k a (Ok y) h =
       refines_part_part rest w operands p _ e (show_refines_part rest w operands x v u k a h)

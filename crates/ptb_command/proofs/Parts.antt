@@ -6,7 +6,7 @@ use Rattle.ptb_expr.specs.declared.fault.FaultKind.{FaultKind}
 use Rattle.ptb_expr.specs.Tree.{Tree}
 use Rattle.ptb_expr.specs.Reading.{Whole, item_of}
 use Rattle.ptb_expr.specs.Value.{fault, or_fault}
-use Rattle.ptb_command.specs.declared.stop.Stop.{Stop}
+use Rattle.ptb_command.specs.declared.stop.CommandStop.{CommandStop}
 use Rattle.ptb_command.specs.Commands.{Part, Say, Width, Show, NewLine, Letter, Operand, Defect}
 use Rattle.ptb_command.specs.Commands.{command_ends, defect, end_check}
 use Rattle.ptb_command.specs.Actions.{Faults, Action, and_then, goes_on, halt, show, work_action}
@@ -44,7 +44,7 @@ module _ (rest : List Part) (w : ℕ) (operands : List ℤ) where
   refines_part_part {o = o} {n = n} {g = g} p q e m =
       subst (λ (x : Part). RefinesPart o n (parts_action (x ∷ rest) w operands) g) (sym e) m
 
-  pub stops_part : (refused : Refusal → Type 0) (o n : Trace) (p q : Part) → p ≡ q → (e : Stop)
+  pub stops_part : (refused : Refusal → Type 0) (o n : Trace) (p q : Part) → p ≡ q → (e : CommandStop)
       → Stops refused (RefinesPartTo o n (parts_action (q ∷ rest) w operands)) n.devices e
       → Stops refused (RefinesPartTo o n (parts_action (p ∷ rest) w operands)) n.devices e
   stops_part refused o n p q k e h =
@@ -57,7 +57,7 @@ module _ (rest : List Part) (w : ℕ) (operands : List ℤ) where
   unfolding parts_action
   say_refines_part s a = refines_part_on (λ u. parts_action rest w operands) a
 
-  pub say_stops : (refused : Refusal → Type 0) (o n : Trace) (s : List ℕ) (e : Stop)
+  pub say_stops : (refused : Refusal → Type 0) (o n : Trace) (s : List ℕ) (e : CommandStop)
       → Stops refused (RefinesPartTo o n (show s)) n.devices e
       → Stops refused (RefinesPartTo o n (parts_action (Say s ∷ rest) w operands)) n.devices e
   unfolding parts_action
@@ -69,7 +69,7 @@ module _ (rest : List Part) (w : ℕ) (operands : List ℤ) where
   unfolding parts_action
   newline_refines_part a = refines_part_on (λ u. parts_action rest w operands) a
 
-  pub newline_stops : (refused : Refusal → Type 0) (o n : Trace) (e : Stop)
+  pub newline_stops : (refused : Refusal → Type 0) (o n : Trace) (e : CommandStop)
       → Stops refused (RefinesPartTo o n (show newline)) n.devices e
       → Stops refused (RefinesPartTo o n (parts_action (NewLine ∷ rest) w operands)) n.devices e
   unfolding parts_action
@@ -101,14 +101,15 @@ module _ (rest : List Part) (w : ℕ) (operands : List ℤ) where
       (subst (λ (z : ℤ). RefinesPart m n (show (padded_decimal w z)) (goes_on tt)) e b))
 
   -- its value stops it
-  pub show_value_stops : (refused : Refusal → Type 0) (o n : Trace) (x : Tree) (e : Stop)
+  pub show_value_stops : (refused : Refusal → Type 0) (o n : Trace) (x : Tree) (e : CommandStop)
       → Stops refused (RefinesPartTo o n (value_action x)) n.devices e
       → Stops refused (RefinesPartTo o n (parts_action (Show x ∷ rest) w operands)) n.devices e
   unfolding parts_action show_next
   show_value_stops refused o n x e h = stops_first refused o n (value_action x) show_next show_next_adds e h
 
   -- the screen stops it
-  pub show_stops : (refused : Refusal → Type 0) {o m : Trace} (n : Trace) (x : Tree) (v u : ℤ) → u ≡ v → (e : Stop)
+  pub show_stops : (refused : Refusal → Type 0) {o m : Trace} (n : Trace) (x : Tree) (v u : ℤ) → u ≡ v
+      → (e : CommandStop)
       → RefinesPart o m (value_action x) (goes_on v)
       → Stops refused (RefinesPartTo m n (show (padded_decimal w u))) n.devices e
       → Stops refused (RefinesPartTo o n (parts_action (Show x ∷ rest) w operands)) n.devices e
@@ -144,7 +145,7 @@ module _ (rest : List Part) (w : ℕ) (operands : List ℤ) where
       refines_part_then (width_first x mark v a) (refines_part_on (λ u. parts_action rest u operands)
       (subst (λ (z : ℤ). RefinesPart m n (work_action (λ c. or_fault (width_of z) mark)) (goes_on wide)) k b))
 
-  pub width_value_stops : (refused : Refusal → Type 0) (o n : Trace) (x : Tree) (mark : ℕ) (e : Stop)
+  pub width_value_stops : (refused : Refusal → Type 0) (o n : Trace) (x : Tree) (mark : ℕ) (e : CommandStop)
       → Stops refused (RefinesPartTo o n (value_action x)) n.devices e
       → Stops refused (RefinesPartTo o n (parts_action (Width x mark ∷ rest) w operands)) n.devices e
   unfolding parts_action width_next
@@ -152,7 +153,7 @@ module _ (rest : List Part) (w : ℕ) (operands : List ℤ) where
       stops_first refused o n (value_action x) (width_next mark) (width_next_adds mark) e h
 
   pub width_stops : (refused : Refusal → Type 0) {o m : Trace} (n : Trace) (x : Tree) (mark : ℕ) (v u : ℤ) → u ≡ v
-      → (e : Stop) → RefinesPart o m (value_action x) (goes_on v)
+      → (e : CommandStop) → RefinesPart o m (value_action x) (goes_on v)
       → Stops refused (RefinesPartTo m n (work_action (λ c. or_fault (width_of u) mark))) n.devices e
       → Stops refused (RefinesPartTo o n (parts_action (Width x mark ∷ rest) w operands)) n.devices e
   unfolding width_next
@@ -170,7 +171,7 @@ module _ (rest : List Part) (w : ℕ) (operands : List ℤ) where
   unfolding parts_action
   operand_refines_part x v a = refines_part_on (λ v. parts_action rest w (operands ++ v ∷ [])) a
 
-  pub operand_stops : (refused : Refusal → Type 0) (o n : Trace) (x : Tree) (e : Stop)
+  pub operand_stops : (refused : Refusal → Type 0) (o n : Trace) (x : Tree) (e : CommandStop)
       → Stops refused (RefinesPartTo o n (value_action x)) n.devices e
       → Stops refused (RefinesPartTo o n (parts_action (Operand x ∷ rest) w operands)) n.devices e
   unfolding parts_action

@@ -27,7 +27,7 @@ use Rattle.std.specs.Int.{FitsUnsignedBits}
 use Rattle.ptb_expr.specs.declared.fault.FaultKind.TheVariants.{How}
 use Rattle.ptb_command.specs.Effects.{action_state}
 use Rattle.ptb_command.specs.Devices.{ScreenState, Devices, with_screen, bytes_alone, Shows, nothing_refused, HasBroken}
-use Rattle.ptb_command.specs.declared.stop.Stop.{Stop}
+use Rattle.ptb_command.specs.declared.stop.CommandStop.{CommandStop}
 use Rattle.ptb_command.specs.Traces.{Trace, trace, fresh_after, RefinesPart}
 use Rattle.ptb_command.specs.Reports.{IsShown}
 use Rattle.ptb_command.specs.Stops.{stop_of_device, as_stop, WantsLine, DeviceFails, Stops, RefinesPartTo, Comes}
@@ -129,7 +129,7 @@ pub put_comes : (o : Trace) (d : Devices) (fresh : Bool) (cells : Cells) (bytes 
 put_comes o d fresh cells bytes (Ok x) h = h
 put_comes o d fresh cells bytes (Err fault) h = h
 
-pub shown_as : (o n : Trace) (s bytes : List ℕ) (r : Result (Unit {0}) Stop) → s ≡ bytes
+pub shown_as : (o n : Trace) (s bytes : List ℕ) (r : Result (Unit {0}) CommandStop) → s ≡ bytes
     → Comes nothing_refused o n (show s) goes_on r → Comes nothing_refused o n (show bytes) goes_on r
 shown_as o n s bytes r e h = subst (λ (x : List ℕ). Comes nothing_refused o n (show x) goes_on r) e h
 

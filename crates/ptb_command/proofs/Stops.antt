@@ -13,8 +13,8 @@ use Rattle.ptb_expr.specs.Value.{Work}
 use Rattle.ptb_command.specs.declared.ending.Ending.TheVariants as endings
 use Rattle.ptb_command.specs.Breakage.{Breakage}
 use Rattle.ptb_command.specs.Breakage as errors
-use Rattle.ptb_command.specs.declared.stop.Stop.{Stop}
-use Rattle.ptb_command.specs.declared.stop.Stop.TheVariants as stops
+use Rattle.ptb_command.specs.declared.stop.CommandStop.{CommandStop}
+use Rattle.ptb_command.specs.declared.stop.CommandStop.TheVariants as stops
 use Rattle.ptb_command.specs.State.{State}
 use Rattle.ptb_command.specs.Commands.{Part}
 use Rattle.ptb_command.specs.Actions.{Ends, Progress, Goes, Halts, Action, on_progress, and_then, attempt, or_halt}
@@ -140,7 +140,7 @@ module _ {A B : Type 0} (refused : Refusal → Type 0) (R : Devices → Action A
     broken = h.broken;
   }
 
-  pub stops_before : (e : Stop) → Stops refused R n e → Stops refused Q n e
+  pub stops_before : (e : CommandStop) → Stops refused R n e → Stops refused Q n e
   stops_before (stops.Fault f) h = under n _ h
   stops_before stops.Ended h = under n _ h
   stops_before stops.NoInput h = record {
@@ -179,7 +179,7 @@ module _ {A : Type 0} (refused others : Refusal → Type 0) (more : (r : Refusal
     broken = has_broken_from refused others more h.screen h.screen n.screen refl refl e h.broken;
   }
 
-  pub stops_along : (e : Stop) → Stops refused R n e → Stops others Q n e
+  pub stops_along : (e : CommandStop) → Stops refused R n e → Stops others Q n e
   stops_along (stops.Fault f) h = along n _ h
   stops_along stops.Ended h = along n _ h
   stops_along stops.NoInput h = record {
@@ -204,33 +204,33 @@ module _ {A : Type 0} (refused others : Refusal → Type 0) (more : (r : Refusal
 -- ---- from trace to trace
 
 pub stops_under : {A B : Type 0} (refused : Refusal → Type 0) (o n : Trace) (f : Action A) (next : A → Action B)
-    → ((x : A) → Adds (next x)) → (e : Stop) → Stops refused (RefinesPartTo o n f) n.devices e
+    → ((x : A) → Adds (next x)) → (e : CommandStop) → Stops refused (RefinesPartTo o n f) n.devices e
     → Stops refused (RefinesPartTo o n (and_then f next)) n.devices e
 stops_under refused o n f next adds e h =
     stops_before refused (RefinesPartTo o n f) (RefinesPartTo o n (and_then f next)) next adds
     (λ d g m. refines_part_under next m) n.devices e h
 
 pub stops_after : {A : Type 0} (refused : Refusal → Type 0) {o m : Trace} (n : Trace) {f g : Action A}
-    → RefinesPart o m f g → (e : Stop) → Stops refused (RefinesPartTo m n g) n.devices e
+    → RefinesPart o m f g → (e : CommandStop) → Stops refused (RefinesPartTo m n g) n.devices e
     → Stops refused (RefinesPartTo o n f) n.devices e
 stops_after refused {o = o} {m = m} n {f = f} {g = g} a e h =
     stops_along refused refused (λ r x. x) (RefinesPartTo m n g) (RefinesPartTo o n f)
     (λ d k b. refines_part_then a b) n.devices e h
 
 pub stops_more : {A : Type 0} (refused others : Refusal → Type 0) → ((r : Refusal) → refused r → others r)
-    → (o n : Trace) (f : Action A) (e : Stop) → Stops refused (RefinesPartTo o n f) n.devices e
+    → (o n : Trace) (f : Action A) (e : CommandStop) → Stops refused (RefinesPartTo o n f) n.devices e
     → Stops others (RefinesPartTo o n f) n.devices e
 stops_more refused others more o n f e h =
     stops_along refused others more (RefinesPartTo o n f) (RefinesPartTo o n f) (λ d k b. b) n.devices e h
 
 pub comes_after : {A X : Type 0} (refused : Refusal → Type 0) {o m : Trace} (n : Trace) {f g : Action A}
     (ok : X → Action A)
-    → RefinesPart o m f g → (r : Result X Stop) → Comes refused m n g ok r → Comes refused o n f ok r
+    → RefinesPart o m f g → (r : Result X CommandStop) → Comes refused m n g ok r → Comes refused o n f ok r
 comes_after refused n ok a (Ok x) h = refines_part_then a h
 comes_after refused n ok a (Err e) h = stops_after refused (with_pending (still_pending n.pending e) n) a e h
 
 pub comes_more : {A X : Type 0} (refused others : Refusal → Type 0) → ((r : Refusal) → refused r → others r)
-    → (o n : Trace) (f : Action A) (ok : X → Action A) (r : Result X Stop) → Comes refused o n f ok r
+    → (o n : Trace) (f : Action A) (ok : X → Action A) (r : Result X CommandStop) → Comes refused o n f ok r
     → Comes others o n f ok r
 comes_more refused others more o n f ok (Ok x) h = h
 comes_more refused others more o n f ok (Err e) h =
@@ -238,10 +238,10 @@ comes_more refused others more o n f ok (Err e) h =
 
 -- at the exit of a `?`
 pub comes_err : {A X : Type 0} (refused : Refusal → Type 0) (o n : Trace) (f : Action A) (ok : X → Action A)
-    (r : Result X Stop) (e : Stop)
+    (r : Result X CommandStop) (e : CommandStop)
     → IsErrAnd r (λ y. y ≡ e) → Stops refused (RefinesPartTo o (with_pending (still_pending n.pending e) n) f) n.devices
     e
     → Comes refused o n f ok r
 comes_err {A = A} {X = X} refused o n f ok r e k s =
     let p = err_from_is_err_and r k in
-    subst (λ (x : Result X Stop). Comes refused o n f ok x) (sym (p.1 ∙ ap Err p.2)) s
+    subst (λ (x : Result X CommandStop). Comes refused o n f ok x) (sym (p.1 ∙ ap Err p.2)) s

@@ -18,7 +18,7 @@ use Rattle.ptb_command.specs.declared.command_io.CommandIo.{CommandIo}
 use Rattle.ptb_command.specs.declared.execution.parts.CodeInText.{CodeInText}
 use Rattle.ptb_command.specs.declared.execution.parts.Item.{Item}
 use Rattle.ptb_command.specs.declared.execution.print.Output.{Output}
-use Rattle.ptb_command.specs.declared.stop.Stop.{Stop}
+use Rattle.ptb_command.specs.declared.stop.CommandStop.{CommandStop}
 use Rattle.ptb_command.specs.Act.{ask_for, first_width, item_action, parts_action}
 use Rattle.ptb_command.specs.Actions.{goes_on}
 use Rattle.ptb_command.specs.CommandIo.{pending_trace}
@@ -48,7 +48,7 @@ module _ (rest : List Part) (w : ℕ) (operands : List ℤ) (x : Tree) (prompt :
       {i m : Trace} (n : Trace) (at : Target) (most : ℕ) (l : List ℕ) (given : List (List ℕ))
       (asked : RefinesPart i m (ask_for [] x prompt) (goes_on at)) (fewer : most + 1 ≤ m.devices.most)
       (is : given ≡ m.devices.given ++ l ∷ []) where
-    pub taken_comes : (r : Result Bool Stop)
+    pub taken_comes : (r : Result Bool CommandStop)
         → Comes (refused_answers answers) (with_given given (with_most most m)) n (line_left [] x prompt at l)
         (λ stored. if stored then goes_on tt else item_action [] x prompt) r
         → Comes (refused_by answers unread lines) i n (parts_action (Take [] x prompt ∷ rest) w operands)
@@ -68,10 +68,10 @@ module _ (rest : List Part) (w : ℕ) (operands : List ℤ) (x : Tree) (prompt :
 
 module _ {C S L : Type 0} (chooser : choosers.Ghosts C) (screen : screens.Ghosts S) (source : sources.Ghosts L)
     (code : CodeInText) (operation : Operation) where
-  abbrev Taken : Cells → Cells → CommandIo C S L → CommandIo C S L → Output → Output → Result Bool Stop → Type 0
+  abbrev Taken : Cells → Cells → CommandIo C S L → CommandIo C S L → Output → Output → Result Bool CommandStop → Type 0
   Taken c e o n old new r = IsPartTaken chooser screen source code.text.now code.steps.now operation c e o n old new r
 
-  abbrev Finished : Cells → Cells → CommandIo C S L → CommandIo C S L → Output → Output → Result (Unit {0}) Stop
+  abbrev Finished : Cells → Cells → CommandIo C S L → CommandIo C S L → Output → Output → Result (Unit {0}) CommandStop
       → Type 0
   Finished c e o n old new r = IsPartDone chooser screen source code operation c e o n old new r
 
@@ -88,7 +88,7 @@ module _ {C S L : Type 0} (chooser : choosers.Ghosts C) (screen : screens.Ghosts
     }
 
     -- it stops
-    pub taken_stops : (stop : Stop) → Taken c e o n old new (Err stop) → Finished c e o n old new (Err stop)
+    pub taken_stops : (stop : CommandStop) → Taken c e o n old new (Err stop) → Finished c e o n old new (Err stop)
     taken_stops stop h = record {
       given = h.given;
       gives = h.gives;
@@ -102,7 +102,7 @@ module _ {C S L : Type 0} (chooser : choosers.Ghosts C) (screen : screens.Ghosts
   pub taken_left : ((s t u : L) (xs ys : List (List ℕ)) → source.gives s xs t → source.gives t ys u
       → source.gives s (xs ++ ys) u) → ((s t : L) (xs : List (List ℕ)) → source.gives s xs t
       → source.most t + length xs ≤ source.most s)
-      → (c e f : Cells) (o n m : CommandIo C S L) (old mid new : Output) (r : Result (Unit {0}) Stop)
+      → (c e f : Cells) (o n m : CommandIo C S L) (old mid new : Output) (r : Result (Unit {0}) CommandStop)
       → Taken c e o n old mid (Ok false) → Finished e f n m mid new r → Finished c f o m old new r
   taken_left gives_more falls c e f o n m old mid new r h k = record {
     given = h.given ++ k.given;
@@ -145,7 +145,7 @@ module _ {C S L : Type 0} (chooser : choosers.Ghosts C) (screen : screens.Ghosts
       (goes_on_after chooser screen source code c o old gives_more falls _ _ _ c e o n old new
       (gone_start chooser screen source code c o old gives_none shows_item) only.1 item_there h) refl refl
 
-  pub item_stops : (stop : Stop)
+  pub item_stops : (stop : CommandStop)
       → IsPartDone chooser screen source code (Input item.prompt item.destination) c e o n old new (Err stop)
       → ArePartsDone chooser screen source code c e o n old.pending new.pending old.width (Err stop)
   item_stops stop h =
@@ -153,7 +153,7 @@ module _ {C S L : Type 0} (chooser : choosers.Ghosts C) (screen : screens.Ghosts
       (gone_start chooser screen source code c o old gives_none shows_item) only.1 item_there stop (Err stop) refl h
 
   -- the line at hand had a value
-  pub item_taken : (r : Result Bool Stop) → r ≡ Ok true → old.pending ≡ [] → old.width ≡ first_width
+  pub item_taken : (r : Result Bool CommandStop) → r ≡ Ok true → old.pending ≡ [] → old.width ≡ first_width
       → IsPartTaken chooser screen source code.text.now code.steps.now (Input item.prompt item.destination)
       c e o n old new r
       → ArePartsDone chooser screen source code c e o n [] new.pending first_width (Ok item.next)
@@ -162,5 +162,5 @@ module _ {C S L : Type 0} (chooser : choosers.Ghosts C) (screen : screens.Ghosts
       (subst (λ (pending : List ℕ). ArePartsDone chooser screen source code c e o n pending new.pending old.width
       (Ok item.next)) empty
       (item_done (taken_done chooser screen source code (Input item.prompt item.destination) c e o n old new
-      (subst (λ (q : Result Bool Stop). IsPartTaken chooser screen source code.text.now code.steps.now
+      (subst (λ (q : Result Bool CommandStop). IsPartTaken chooser screen source code.text.now code.steps.now
       (Input item.prompt item.destination) c e o n old new q) is h))))

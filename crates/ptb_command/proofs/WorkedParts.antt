@@ -27,7 +27,7 @@ use Rattle.ptb_command.proofs.Exchanges.{shows_nothing}
 use Rattle.ptb_command.proofs.PartRefinement.{leaves_under, leaves_to, once_nothing}
 use Rattle.ptb_command.proofs.PartRefinement.{freshens_nothing, refines_part_under}
 use Rattle.ptb_command.proofs.PendingBytes.{after_is, refines_part_dropped, stops_pending, stops_dropped}
-use Rattle.ptb_command.specs.declared.stop.Stop.TheVariants as stops
+use Rattle.ptb_command.specs.declared.stop.CommandStop.TheVariants as stops
 use Rattle.ptb_command.proofs.Stops.{asks_before, attempt_adds, or_halt_adds, stops_under}
 
 -- for devices that hold d except the choices, and a state that is fresh or not, with these bytes due and these cells

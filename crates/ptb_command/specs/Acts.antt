@@ -5,7 +5,7 @@
 use Rattle.std.specs.Prelude.{◌≡◌, ℕ, List, ◌++◌, Result, Ok, Err}
 use Rattle.ptb_text.specs.Statements.{Statements}
 use Rattle.ptb_answers.specs.Outcome.{Answers, Outcome}
-use Rattle.ptb_command.specs.declared.stop.Stop.{Stop}
+use Rattle.ptb_command.specs.declared.stop.CommandStop.{CommandStop}
 use Rattle.ptb_command.specs.State.{State}
 use Rattle.ptb_command.specs.Actions.{Action, goes_on}
 use Rattle.ptb_command.specs.Devices.{Devices, Exchange, Exchanges, MayFollow, Refusal}
@@ -41,6 +41,6 @@ abbrev pub RefinesTo : {A : Type 0} → Statements → Configuration → Configu
 RefinesTo p old new o f d g = Refines p old new o d f g
 
 abbrev pub Acts : {X : Type 0} → (Refusal → Type 0) → Statements → Configuration → Configuration → Devices → Devices
-    → Action (Unit {0}) → Result X Stop → Type 0
+    → Action (Unit {0}) → Result X CommandStop → Type 0
 Acts refused p old new o n f (Ok x) = Refines p old new o n f (goes_on tt)
 Acts refused p old new o n f (Err e) = Stops refused (RefinesTo p old new o f) n e

@@ -32,31 +32,31 @@ use Rattle.ptb_text.specs.declared.device_fault.DeviceFault.TheVariants as fault
 use Rattle.ptb_devices.specs.declared.lines.LineSource as sources
 use Rattle.ptb_command.specs.Breakage.{Breakage}
 use Rattle.ptb_command.specs.Breakage as errors
-use Rattle.ptb_command.specs.declared.stop.Stop.{Stop}
-use Rattle.ptb_command.specs.declared.stop.Stop.TheVariants as stops
+use Rattle.ptb_command.specs.declared.stop.CommandStop.{CommandStop}
+use Rattle.ptb_command.specs.declared.stop.CommandStop.TheVariants as stops
 use Rattle.ptb_command.specs.State.{State}
 use Rattle.ptb_command.specs.Actions.{Faults, Ends, Halts, Action, halt}
 use Rattle.ptb_command.specs.Effects.{action_state, Begins, TakesLines}
 use Rattle.ptb_command.specs.Devices.{ScreenState, Devices, with_screen, Shows, Refusal, Unanswered, NoLine, HasBroken}
 use Rattle.ptb_command.specs.Traces.{Trace, with_pending, still_pending, RefinesPart}
 
-abbrev pub stop_of_device : DeviceFault → Stop
+abbrev pub stop_of_device : DeviceFault → CommandStop
 stop_of_device faults.Read = stops.Unread
 stop_of_device faults.TooLong = stops.Unread
 stop_of_device faults.Write = stops.Unwritten
 stop_of_device faults.Memory = stops.Memory
 
-abbrev pub as_stop : {X : Type 0} → Result X DeviceFault → Result X Stop
+abbrev pub as_stop : {X : Type 0} → Result X DeviceFault → Result X CommandStop
 as_stop (Ok x) = Ok x
 as_stop (Err fault) = Err (stop_of_device fault)
 
 -- a chooser that has no memory left is a device that breaks
-abbrev pub stop_of_pause : Pause → Stop
+abbrev pub stop_of_pause : Pause → CommandStop
 stop_of_pause pauses.Ended = stops.Pause pauses.Ended
 stop_of_pause (pauses.OutOfRange k) = stops.Pause (pauses.OutOfRange k)
 stop_of_pause pauses.Memory = stops.Memory
 
-abbrev pub stop_of : NoValue → Stop
+abbrev pub stop_of : NoValue → CommandStop
 stop_of (values.Fault f) = stops.Fault f
 stop_of (values.Pause z) = stop_of_pause z
 
@@ -123,7 +123,7 @@ module _ {A : Type 0} (refused : Refusal → Type 0) (R : Devices → (State →
     pub line : WantsLine e ends bytes left
     pub broken : HasBroken refused screen n.screen e
 
-abbrev pub Stops : {A : Type 0} → (Refusal → Type 0) → (Devices → Action A → Type 0) → Devices → Stop → Type 0
+abbrev pub Stops : {A : Type 0} → (Refusal → Type 0) → (Devices → Action A → Type 0) → Devices → CommandStop → Type 0
 Stops refused R n (stops.Fault f) = R n (halt (Faults f))
 Stops refused R n stops.Ended = R n (halt (Ends endings.Stop))
 Stops refused R n stops.NoInput = IsOutOfLines refused R n (Halts (Ends endings.NoInput))
@@ -133,7 +133,7 @@ Stops refused R n stops.Unread = DeviceFails refused R n action_state (Halts (En
 Stops refused R n stops.Unwritten = DeviceFails refused R n action_state (Halts (Ends endings.NoInput)) errors.Write
 
 -- what is gathered is shown unless a device broke, or no line was left, before which it was shown
-abbrev pub still_shows : {X : Type 0} → Result X Stop → Bool
+abbrev pub still_shows : {X : Type 0} → Result X CommandStop → Bool
 still_shows (Ok x) = true
 still_shows (Err (stops.Fault f)) = true
 still_shows (Err stops.Ended) = true
@@ -158,13 +158,13 @@ UnlessMissed refused P NoMiss = P
 UnlessMissed refused P LineMiss = Unit {0}
 UnlessMissed refused P MemoryMiss = P ⊎ refused faults.Memory
 
-abbrev pub stop_miss : Stop → Miss
+abbrev pub stop_miss : CommandStop → Miss
 stop_miss stops.NoInput = LineMiss
 stop_miss stops.Unread = LineMiss
 stop_miss stops.Memory = MemoryMiss
 stop_miss _ = NoMiss
 
-abbrev pub miss_of : {X : Type 0} → Result X Stop → Miss
+abbrev pub miss_of : {X : Type 0} → Result X CommandStop → Miss
 miss_of (Ok x) = NoMiss
 miss_of (Err e) = stop_miss e
 
@@ -186,7 +186,8 @@ abbrev pub RefinesPartTo : {A : Type 0} → Trace → Trace → Action A → Dev
 RefinesPartTo o n f d g = RefinesPart o (record n { devices = d }) f g
 
 -- at Ok, to what is left to do with its value; at a stop, with what is still due then
-abbrev pub Comes : {A X : Type 0} → (Refusal → Type 0) → Trace → Trace → Action A → (X → Action A) → Result X Stop
+abbrev pub Comes : {A X : Type 0} → (Refusal → Type 0) → Trace → Trace → Action A → (X → Action A)
+    → Result X CommandStop
     → Type 0
 Comes refused o n f ok (Ok x) = RefinesPart o n f (ok x)
 Comes refused o n f ok (Err e) = Stops refused (RefinesPartTo o (with_pending (still_pending n.pending e) n) f)

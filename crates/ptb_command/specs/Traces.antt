@@ -11,8 +11,8 @@ use Rattle.std.specs.Prelude.{◌≡◌, ◌==◌, ◌-◌, ℕ, Bool, if◌then
 use Rattle.ptb_answers.specs.Outcome.{Answers, Outcome}
 use Rattle.ptb_answers.specs.Choices.{AsksFor}
 use Rattle.ptb_expr.specs.Store.{Cells}
-use Rattle.ptb_command.specs.declared.stop.Stop.{Stop}
-use Rattle.ptb_command.specs.declared.stop.Stop.TheVariants as stops
+use Rattle.ptb_command.specs.declared.stop.CommandStop.{CommandStop}
+use Rattle.ptb_command.specs.declared.stop.CommandStop.TheVariants as stops
 use Rattle.ptb_command.specs.State.{State}
 use Rattle.ptb_command.specs.Act.{is_fresh}
 use Rattle.ptb_command.specs.Devices.{Devices, Exchange, Exchanges, MayFollow}
@@ -33,7 +33,7 @@ abbrev pub with_pending : List ℕ → Trace → Trace
 with_pending pending o = record o { pending = pending }
 
 -- where a device broke, or no line was left, nothing of it will be shown
-abbrev pub still_pending : List ℕ → Stop → List ℕ
+abbrev pub still_pending : List ℕ → CommandStop → List ℕ
 still_pending [] e = []
 still_pending (b ∷ pending) (stops.Fault f) = b ∷ pending
 still_pending (b ∷ pending) stops.Ended = b ∷ pending

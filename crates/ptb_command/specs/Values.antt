@@ -7,7 +7,7 @@ use Rattle.ptb_expr.specs.declared.step.Step.{Step}
 use Rattle.ptb_expr.specs.Store.{Cells}
 use Rattle.ptb_expr.specs.Tree.{Tree}
 use Rattle.ptb_command.specs.declared.operation.Expression.{Expression}
-use Rattle.ptb_command.specs.declared.stop.Stop.{Stop}
+use Rattle.ptb_command.specs.declared.stop.CommandStop.{CommandStop}
 use Rattle.ptb_command.specs.Act.{value_action}
 use Rattle.ptb_command.specs.Actions.{goes_on}
 use Rattle.ptb_command.specs.Code.{AreStepsAt, FailsWithoutValue}
@@ -16,7 +16,7 @@ use Rattle.ptb_command.specs.Stops.{Comes}
 use Rattle.ptb_command.specs.Traces.{trace, with_pending}
 
 pub record IsValueOf {C : Type 0} (chooser : choosers.Ghosts C) (steps : List Step) (e : Expression) (cells : Cells)
-    (old new : C) (r : Result ℤ Stop) : Type 0 where
+    (old new : C) (r : Result ℤ CommandStop) : Type 0 where
   pub comes :
       (x : Tree) (d : Devices) (fresh : Bool) (pending : List ℕ) → AreStepsAt steps e x
       → Comes (refused_answers (chooser.refused new))

@@ -7,7 +7,7 @@ ghost use Rattle.ptb_command.specs.Devices.{nothing_refused};
 ghost use Rattle.ptb_command.specs.Stops.{Comes, as_stop};
 
 use crate::pending_output::{PENDING_LIMIT, PendingOutput};
-use crate::stop::Stop;
+use crate::stop::CommandStop;
 use ptb_answers::{Chooser, Rules};
 use ptb_devices::{LineSource, Screen};
 use ptb_text::DeviceFault;
@@ -59,7 +59,11 @@ impl<'a, C: Chooser, S: Screen, L: LineSource> CommandIo<'a, C, S, L> {
 
     /// Shows bytes as a part of a command: later, with others, if there is room for them.
     #[inline(always)]
-    pub(crate) fn show(&mut self, pending: &mut PendingOutput, bytes: &[u8]) -> Result<(), Stop>
+    pub(crate) fn show(
+        &mut self,
+        pending: &mut PendingOutput,
+        bytes: &[u8],
+    ) -> Result<(), CommandStop>
         ensures comes { (given : List (List ℕ)) (cells : Cells) → Comes nothing_refused
             (pending_trace C.choices S.Screen L.most self.old given cells pending.old)
             (pending_trace C.choices S.Screen L.most self.new given cells pending.new)
@@ -78,7 +82,7 @@ impl<'a, C: Chooser, S: Screen, L: LineSource> CommandIo<'a, C, S, L> {
         &mut self,
         pending: &mut PendingOutput,
         count: usize,
-    ) -> Result<(), Stop>
+    ) -> Result<(), CommandStop>
         ensures comes { (given : List (List ℕ)) (cells : Cells) → Comes nothing_refused
             (pending_trace C.choices S.Screen L.most self.old given cells pending.old)
             (pending_trace C.choices S.Screen L.most self.new given cells pending.new)

@@ -56,5 +56,5 @@ pub use saved_registers::SavedRegisters;
 pub use saved_stack::SavedStack;
 pub use stack::{NESTING_LIMIT, OpenLoop, Stack};
 pub use statement_places::{first_place, is_zero, line_at, place_after, start_of};
-pub use stop::Stop;
+pub use stop::CommandStop;
 pub use translation::translate;

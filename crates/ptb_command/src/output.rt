@@ -4,7 +4,7 @@ ghost use Rattle.std.specs.Prelude.{◌≡◌};
 ghost use Rattle.ptb_command.specs.Prelude.{Cells, goes_on, show_action, Devices, screen_state, with_screen};
 ghost use Rattle.ptb_command.specs.Prelude.{nothing_refused, trace, fresh_after, IsShown, Comes};
 
-use crate::stop::Stop;
+use crate::stop::CommandStop;
 use ptb_devices::Screen;
 use ptb_text::DeviceFault;
 
@@ -37,7 +37,11 @@ pub fn put<S: Screen>(screen: &mut S, fresh: &mut bool, bytes: &[u8]) -> Result<
 }
 
 /// Shows bytes as a part of a command.
-pub(crate) fn show<S: Screen>(screen: &mut S, fresh: &mut bool, bytes: &[u8]) -> Result<(), Stop>
+pub(crate) fn show<S: Screen>(
+    screen: &mut S,
+    fresh: &mut bool,
+    bytes: &[u8],
+) -> Result<(), CommandStop>
     ensures { (d : Devices) (cells : Cells) → Comes nothing_refused
         (trace (with_screen (screen_state S.Screen screen.old) d) fresh.old cells)
         (trace (with_screen (screen_state S.Screen screen.new) d) fresh.new cells)

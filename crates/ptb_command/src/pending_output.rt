@@ -6,7 +6,7 @@ ghost use Rattle.ptb_command.specs.Prelude.{Cells, goes_on, show_action, Devices
 ghost use Rattle.ptb_command.specs.Prelude.{nothing_refused, as_stop, trace, with_pending, Comes};
 
 use crate::output::{put, show};
-use crate::stop::Stop;
+use crate::stop::CommandStop;
 use ptb_devices::Screen;
 use ptb_text::{ByteBuffer, DeviceFault};
 use std::marker::Model;
@@ -141,7 +141,7 @@ impl PendingOutput {
     ///
     /// # Errors
     ///
-    /// [`DeviceFault`] where the screen doesn't show it all. It is not made a [`Stop`] here, which is
+    /// [`DeviceFault`] where the screen doesn't show it all. It is not made a [`CommandStop`] here, which is
     /// large.
     pub(crate) fn flush<S: Screen>(
         &mut self,
@@ -168,7 +168,7 @@ impl PendingOutput {
         screen: &mut S,
         fresh: &mut bool,
         bytes: &[u8],
-    ) -> Result<(), Stop>
+    ) -> Result<(), CommandStop>
         ensures comes { (d : Devices) (cells : Cells) → Comes nothing_refused
             (with_pending self.old
             (trace (with_screen (screen_state S.Screen screen.old) d) fresh.old cells))
@@ -192,7 +192,7 @@ impl PendingOutput {
         screen: &mut S,
         fresh: &mut bool,
         bytes: &[u8],
-    ) -> Result<(), Stop>
+    ) -> Result<(), CommandStop>
         ensures { (d : Devices) (cells : Cells) → Comes nothing_refused
             (with_pending self.old
             (trace (with_screen (screen_state S.Screen screen.old) d) fresh.old cells))

@@ -10,7 +10,7 @@ use ptb_text::DeviceFault;
 
 /// Why a command isn't done.
 #[derive(Clone, Copy, Debug, PartialEq, Eq)]
-pub enum Stop {
+pub enum CommandStop {
     /// It has a fault, which is not reported yet.
     Fault(Fault),
     /// It ends the run, as STOP does.
@@ -28,46 +28,51 @@ pub enum Stop {
 }
 
 /// A fault that is marked at a place.
-pub(crate) fn fault(kind: FaultKind, mark: usize) -> Stop
-    ensures { result ≡ Stop.Fault (fault kind mark) }
+pub(crate) fn fault(kind: FaultKind, mark: usize) -> CommandStop
+    ensures { result ≡ CommandStop.Fault (fault kind mark) }
 {
-    Stop::Fault(Fault { kind, mark })
+    CommandStop::Fault(Fault { kind, mark })
 }
 
 /// Whether what a command has gathered is shown when it has this result.
-pub(crate) fn still_shows<X: Copy>(done: Result<X, Stop>) -> bool
+pub(crate) fn still_shows<X: Copy>(done: Result<X, CommandStop>) -> bool
     ensures { result ≡ still_shows done }
 {
     !matches!(
         done,
-        Err(Stop::NoInput | Stop::Memory | Stop::Unread | Stop::Unwritten)
+        Err(
+            CommandStop::NoInput
+                | CommandStop::Memory
+                | CommandStop::Unread
+                | CommandStop::Unwritten
+        )
     )
 }
 
-impl From<DeviceFault> for Stop {
+impl From<DeviceFault> for CommandStop {
     ghost use Rattle.ptb_command.specs.Stops.{stop_of_device};
 
     ghost from_gives = { λ fault r. r ≡ stop_of_device fault };
 
-    fn from(fault: DeviceFault) -> Stop {
+    fn from(fault: DeviceFault) -> CommandStop {
         match fault {
-            DeviceFault::Read | DeviceFault::TooLong => Stop::Unread,
-            DeviceFault::Write => Stop::Unwritten,
-            DeviceFault::Memory => Stop::Memory,
+            DeviceFault::Read | DeviceFault::TooLong => CommandStop::Unread,
+            DeviceFault::Write => CommandStop::Unwritten,
+            DeviceFault::Memory => CommandStop::Memory,
         }
     }
 }
 
-impl From<ptb_expr::Stop> for Stop {
+impl From<ptb_expr::Stop> for CommandStop {
     ghost use Rattle.ptb_command.specs.Stops.{stop_of};
 
     ghost from_gives = { λ stop r. r ≡ stop_of stop };
 
-    fn from(stop: ptb_expr::Stop) -> Stop {
+    fn from(stop: ptb_expr::Stop) -> CommandStop {
         match stop {
-            ptb_expr::Stop::Fault(fault) => Stop::Fault(fault),
-            ptb_expr::Stop::Pause(Pause::Memory) => Stop::Memory,
-            ptb_expr::Stop::Pause(pause) => Stop::Pause(pause),
+            ptb_expr::Stop::Fault(fault) => CommandStop::Fault(fault),
+            ptb_expr::Stop::Pause(Pause::Memory) => CommandStop::Memory,
+            ptb_expr::Stop::Pause(pause) => CommandStop::Pause(pause),
         }
     }
 }

@@ -12,8 +12,8 @@ use Rattle.ptb_machine.specs.declared.fault.RunFault.{RunFault}
 use Rattle.ptb_machine.specs.declared.fault.RunFault.TheVariants as faults
 use Rattle.ptb_text.specs.declared.device_fault.DeviceFault.{DeviceFault}
 use Rattle.ptb_text.specs.declared.device_fault.DeviceFault.TheVariants as screens
-use Rattle.ptb_command.specs.declared.stop.Stop.{Stop}
-use Rattle.ptb_command.specs.declared.stop.Stop.TheVariants as stops
+use Rattle.ptb_command.specs.declared.stop.CommandStop.{CommandStop}
+use Rattle.ptb_command.specs.declared.stop.CommandStop.TheVariants as stops
 use Rattle.ptb_command.specs.Act.{report_bytes}
 use Rattle.ptb_command.specs.Traces.{Trace}
 use Rattle.ptb_command.specs.Reports.{IsShown}
@@ -24,19 +24,20 @@ use Rattle.ptb_machine.specs.RunDevices.{RunDevices, run_devices, lent}
 use Rattle.ptb_machine.specs.Steps.{step_miss}
 
 -- nothing is shown where it was done, or stopped by s
-pub result_done : (o : Trace) (number : ℕ) (text : List ℕ) (done : Result (Unit {0}) Stop) (x : Unit {0}) → done ≡ Ok x
+pub result_done : (o : Trace) (number : ℕ) (text : List ℕ) (done : Result (Unit {0}) CommandStop) (x : Unit {0})
+    → done ≡ Ok x
     → IsResultOf o o number text done (Ok None)
 result_done o number text done x e =
-    subst (λ (y : Result (Unit {0}) Stop). IsResultOf o o number text y (Ok None)) (sym e)
+    subst (λ (y : Result (Unit {0}) CommandStop). IsResultOf o o number text y (Ok None)) (sym e)
     (record { is = refl; same = refl })
 
-pub result_stopped : (o : Trace) (number : ℕ) (text : List ℕ) (done : Result (Unit {0}) Stop) (s : Stop)
+pub result_stopped : (o : Trace) (number : ℕ) (text : List ℕ) (done : Result (Unit {0}) CommandStop) (s : CommandStop)
     (r : Result (Option Ending) RunFault)
     → ((f : Fault) → s ≡ stops.Fault f → ⊥) → r ≡ result_of_stop s → done ≡ Err s → IsResultOf o o number text done r
 result_stopped o number text done s r other is e =
-    subst (λ (y : Result (Unit {0}) Stop). IsResultOf o o number text y r) (sym e) (silent s other is)
+    subst (λ (y : Result (Unit {0}) CommandStop). IsResultOf o o number text y r) (sym e) (silent s other is)
   where
-    silent : (s : Stop) → ((f : Fault) → s ≡ stops.Fault f → ⊥) → r ≡ result_of_stop s
+    silent : (s : CommandStop) → ((f : Fault) → s ≡ stops.Fault f → ⊥) → r ≡ result_of_stop s
         → IsResultOf o o number text (Err s) r
     silent (stops.Fault f) other is = absurd (other f refl)
     silent stops.Ended other is = record { is = is; same = refl }
@@ -47,12 +48,12 @@ result_stopped o number text done s r other is e =
     silent stops.Unwritten other is = record { is = is; same = refl }
 
 -- a fault that was reported, or not
-pub result_reported : (o n : Trace) (number : ℕ) (text : List ℕ) (f : Fault) (done : Result (Unit {0}) Stop)
+pub result_reported : (o n : Trace) (number : ℕ) (text : List ℕ) (f : Fault) (done : Result (Unit {0}) CommandStop)
     (r : Result (Option Ending) RunFault) (shown : Result (Unit {0}) DeviceFault)
     → done ≡ Err (stops.Fault f) → r ≡ reported f.kind shown → IsShown o n (report_bytes o.fresh number text f) shown
     → IsResultOf o n number text done r
 result_reported o n number text f done r shown e is shows =
-    subst (λ (x : Result (Unit {0}) Stop). IsResultOf o n number text x r) (sym e)
+    subst (λ (x : Result (Unit {0}) CommandStop). IsResultOf o n number text x r) (sym e)
     (record { shown = shown; is = is; shows = shows })
 
 -- ---- whether the run is over
@@ -88,7 +89,7 @@ reported_unspent kind (Err screens.Memory) = refl
 reported_unspent kind (Err screens.Write) = refl
 
 -- what the result of a command says of both
-result_facts : (o n : Trace) (number : ℕ) (text : List ℕ) (done : Result (Unit {0}) Stop)
+result_facts : (o n : Trace) (number : ℕ) (text : List ℕ) (done : Result (Unit {0}) CommandStop)
     (r : Result (Option Ending) RunFault)
     → IsResultOf o n number text done r → (is_over r ≡ is_err done) × (is_spent r ≡ false)
 result_facts o n number text (Ok x) r is = (ap is_over is.is, ap is_spent is.is)
@@ -104,7 +105,7 @@ result_facts o n number text (Err stops.Unread) r is = (ap is_over is.is, ap is_
 result_facts o n number text (Err stops.Unwritten) r is = (ap is_over is.is, ap is_spent is.is)
 
 -- it continues where the command was done
-pub result_goes : (o n : Trace) (number : ℕ) (text : List ℕ) (done : Result (Unit {0}) Stop)
+pub result_goes : (o n : Trace) (number : ℕ) (text : List ℕ) (done : Result (Unit {0}) CommandStop)
     (r : Result (Option Ending) RunFault)
     → IsResultOf o n number text done r → (r ≡ Ok None ↔ is_err done ≡ false)
 result_goes o n number text done r is =
@@ -112,7 +113,7 @@ result_goes o n number text done r is =
     (λ e. sym same ∙ ap is_over e, λ e. not_over r (same ∙ e))
 
 -- it was not, where a command was done or stopped
-pub result_unspent : (o n : Trace) (number : ℕ) (text : List ℕ) (done : Result (Unit {0}) Stop)
+pub result_unspent : (o n : Trace) (number : ℕ) (text : List ℕ) (done : Result (Unit {0}) CommandStop)
     (r : Result (Option Ending) RunFault)
     → IsResultOf o n number text done r → r ≡ Err faults.Spent → ⊥
 result_unspent o n number text done r is e =
@@ -127,7 +128,7 @@ reported_unmissed : (refused : DeviceFault → Type 0) (P : Type 0) → P
 reported_unmissed refused P p kind shown = miss_unmissed refused P p (step_miss (reported kind shown))
 
 pub result_missed : (refused : DeviceFault → Type 0) (P : Type 0) (o n : Trace) (number : ℕ) (text : List ℕ)
-    (done : Result (Unit {0}) Stop) (r : Result (Option Ending) RunFault)
+    (done : Result (Unit {0}) CommandStop) (r : Result (Option Ending) RunFault)
     → IsResultOf o n number text done r → UnlessMissed refused P (miss_of done) → UnlessMissed refused P (step_miss r)
 result_missed refused P o n number text done r is h = by_result done is h
   where
@@ -135,7 +136,7 @@ result_missed refused P o n number text done r is h = by_result done is h
         → UnlessMissed refused P (step_miss r)
     is_so x e u = subst (λ (y : Result (Option Ending) RunFault). UnlessMissed refused P (step_miss y)) (sym e) u
 
-    by_result : (done : Result (Unit {0}) Stop) → IsResultOf o n number text done r
+    by_result : (done : Result (Unit {0}) CommandStop) → IsResultOf o n number text done r
         → UnlessMissed refused P (miss_of done) → UnlessMissed refused P (step_miss r)
     by_result (Ok x) is h = is_so _ is.is h
     by_result (Err (stops.Fault f)) is h = is_so _ is.is (reported_unmissed refused P h f.kind is.shown)

@@ -8,31 +8,31 @@ ghost use Rattle.ptb_machine.specs.CommandResults.{IsResultOf, result_of_stop};
 use crate::fault::RunFault;
 use crate::fault_report::{ending_of, report};
 use ptb_answers::{Chooser, Pause};
-use ptb_command::{CommandIo, Ending, Stop, line_at};
+use ptb_command::{CommandIo, CommandStop, Ending, line_at};
 use ptb_devices::{LineSource, Screen};
 use ptb_text::Program;
 
 // The result of a step whose command stopped so, once its fault is reported if it has one.
-fn stopped(stop: Stop) -> Result<Option<Ending>, RunFault>
+fn stopped(stop: CommandStop) -> Result<Option<Ending>, RunFault>
     ensures { result ≡ result_of_stop stop }
 {
     match stop {
-        Stop::Fault(fault) => Ok(Some(ending_of(fault.kind))),
-        Stop::Ended => Ok(Some(Ending::Stop)),
-        Stop::NoInput => Ok(Some(Ending::NoInput)),
-        Stop::Pause(Pause::Ended) => Ok(Some(Ending::NoAnswer)),
-        Stop::Pause(Pause::OutOfRange(_)) => Ok(Some(Ending::BadAnswer)),
-        Stop::Pause(Pause::Memory) => Err(RunFault::Memory),
-        Stop::Memory => Err(RunFault::Memory),
-        Stop::Unread => Err(RunFault::Read),
-        Stop::Unwritten => Err(RunFault::Write),
+        CommandStop::Fault(fault) => Ok(Some(ending_of(fault.kind))),
+        CommandStop::Ended => Ok(Some(Ending::Stop)),
+        CommandStop::NoInput => Ok(Some(Ending::NoInput)),
+        CommandStop::Pause(Pause::Ended) => Ok(Some(Ending::NoAnswer)),
+        CommandStop::Pause(Pause::OutOfRange(_)) => Ok(Some(Ending::BadAnswer)),
+        CommandStop::Pause(Pause::Memory) => Err(RunFault::Memory),
+        CommandStop::Memory => Err(RunFault::Memory),
+        CommandStop::Unread => Err(RunFault::Read),
+        CommandStop::Unwritten => Err(RunFault::Write),
     }
 }
 
 /// The result of a step whose command, one of this statement, has the result `done`. A fault is
 /// reported.
 pub(crate) fn result_of<C: Chooser, S: Screen, L: LineSource>(
-    done: Result<(), Stop>,
+    done: Result<(), CommandStop>,
     program: &Program,
     statement: usize,
     io: &mut CommandIo<'_, C, S, L>,
@@ -48,7 +48,7 @@ pub(crate) fn result_of<C: Chooser, S: Screen, L: LineSource>(
         return Ok(None);
     };
     match stop {
-        Stop::Fault(fault) => {
+        CommandStop::Fault(fault) => {
             let (number, text) = line_at(program, statement);
             let mut fresh = io.fresh;
             let reported = report(io.screen, &mut fresh, number.unsigned_abs(), text, fault);

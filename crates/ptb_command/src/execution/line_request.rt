@@ -10,7 +10,7 @@ use crate::execution::print::bytes_in;
 use crate::execution::values::target;
 use crate::operation::{Destination, Prompt};
 use crate::pending_output::{PENDING_LIMIT, PendingOutput};
-use crate::stop::Stop;
+use crate::stop::CommandStop;
 use ptb_answers::Chooser;
 use ptb_devices::{LineSource, Screen};
 use ptb_expr::{Step, Store, Target};
@@ -65,7 +65,7 @@ fn show_prompt<C: Chooser, S: Screen, L: LineSource>(
     name: &[u8],
     io: &mut CommandIo<'_, C, S, L>,
     pending: &mut PendingOutput,
-) -> Result<(), Stop>
+) -> Result<(), CommandStop>
     ensures comes { (given : List (List ℕ)) (cells : Cells) → Comes nothing_refused
         (pending_trace C.choices S.Screen L.most io.old given cells pending.old)
         (pending_trace C.choices S.Screen L.most io.new given cells pending.new)
@@ -114,7 +114,7 @@ pub(crate) fn ask<C: Chooser, S: Screen, L: LineSource>(
     store: &Store,
     io: &mut CommandIo<'_, C, S, L>,
     pending: &mut PendingOutput,
-) -> Result<Target, Stop>
+) -> Result<Target, CommandStop>
     ensures comes { HasAsked C.Chooser S.Screen L.LineSource request.now store.now
         io.old io.new pending.old pending.new result }
     ensures target { IfOk result (IsTarget store.now) }

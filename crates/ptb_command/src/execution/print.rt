@@ -11,7 +11,7 @@ use crate::execution::decimals::{WIDTH_LIMIT, write_decimal};
 use crate::execution::values::long_value;
 use crate::operation::{Expression, Literal, Range};
 use crate::pending_output::PendingOutput;
-use crate::stop::Stop;
+use crate::stop::CommandStop;
 use ptb_answers::Chooser;
 use ptb_devices::{LineSource, Screen};
 use ptb_expr::{Step, Steps, Store};
@@ -96,7 +96,7 @@ fn show_value<C: Chooser, S: Screen, L: LineSource>(
     pending: &mut PendingOutput,
     width: u8,
     value: i16,
-) -> Result<(), Stop>
+) -> Result<(), CommandStop>
     ensures comes { (given : List (List ℕ)) (cells : Cells) → Comes nothing_refused
         (pending_trace C.choices S.Screen L.most io.old given cells
         pending.old)
@@ -118,7 +118,7 @@ pub(crate) fn show_expression<C: Chooser, S: Screen, L: LineSource>(
     store: &Store,
     io: &mut CommandIo<'_, C, S, L>,
     output: &mut Output,
-) -> Result<(), Stop>
+) -> Result<(), CommandStop>
     ensures comes { (given : List (List ℕ)) (x : Tree) (rest : List Part) (operands : List ℤ) →
         AreStepsAt steps.now expression x →
         Comes (refused_answers (C.refused io.new.chooser.now))

@@ -7,12 +7,12 @@ ghost use Rattle.ptb_command.specs.Prelude.{with_choices, Comes, Trace, trace, w
 
 use crate::execution::values::long_value;
 use crate::operation::Expression;
-use crate::stop::{Stop, fault};
+use crate::stop::{CommandStop, fault};
 use ptb_answers::Chooser;
 use ptb_expr::{FaultKind, Step, Store};
 
 // A value as a width.
-fn width_of(value: i16, mark: usize) -> Result<u8, Stop>
+fn width_of(value: i16, mark: usize) -> Result<u8, CommandStop>
     ensures { (o : Trace) → Comes nothing_refused o o
         (work_action (λ _. or_fault (width_of value) mark)) goes_on result }
 {
@@ -29,7 +29,7 @@ pub(crate) fn new_width<C: Chooser>(
     mark: u8,
     store: &Store,
     chooser: &mut C,
-) -> Result<u8, Stop>
+) -> Result<u8, CommandStop>
     ensures comes { (d : Devices) (fresh : Bool) (pending : List ℕ) (x : Tree) (rest : List Part)
         (w : ℕ) (operands : List ℤ) →
         AreStepsAt steps.now expression x →

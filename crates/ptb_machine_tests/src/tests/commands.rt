@@ -5,8 +5,8 @@ use crate::tests::shared::{
     fault, letter, lines_of, nothing, numbers, with_line,
 };
 use ptb_command::{
-    Location, OpenLoop, Output, Registers, SavedRegisters, Stack, Stop, first_place, is_zero,
-    next_command, place_after, put,
+    CommandStop, Location, OpenLoop, Output, Registers, SavedRegisters, Stack, first_place,
+    is_zero, next_command, place_after, put,
 };
 use ptb_devices::TextScreen;
 use ptb_expr::Store;
@@ -79,7 +79,7 @@ fn is_fresh(shown: &[u8]) -> bool {
 fn expect_effect(
     rt: &impl Abort,
     line: &str,
-    (done, fresh): (Result<(), Stop>, bool),
+    (done, fresh): (Result<(), CommandStop>, bool),
     (registers, screen): (&Registers, &TextScreen),
     (want, shown, a, element): Effect<'_>,
 ) {
@@ -112,7 +112,7 @@ pub(crate) fn expect_command(
 // shown, and A.
 const COMMANDS: &[(&str, Doing, &[u8], i16)] = &[
     ("10 REM X;P.1", Ok((1, 0)), b"", 1),
-    ("10 STOP", Err(Stop::Ended), b"", 1),
+    ("10 STOP", Err(CommandStop::Ended), b"", 1),
     ("10 STOP;", fault!(What, 4), b"", 1),
     ("10 GOTO 20", Ok((1, 0)), b"", 1),
     ("10 GOTO 30", fault!(How, 7), b"", 1),
@@ -129,7 +129,7 @@ const COMMANDS: &[(&str, Doing, &[u8], i16)] = &[
     ("10 PRINT A,", Ok((0, 8)), b"     1", 1),
     ("10 PRINT 1 2", fault!(What, 8), b"     1\n", 1),
     ("10 INPUT A;P.A", Ok((0, 8)), b"A:5\n", 5),
-    ("10 INPUT A,A", Err(Stop::NoInput), b"A:5\nA:", 5),
+    ("10 INPUT A,A", Err(CommandStop::NoInput), b"A:5\nA:", 5),
     // one malformed command of each kind that is not above
     ("10 LET A 2", fault!(What, 6), b"", 1),
     ("10 IF", fault!(What, 2), b"", 1),
@@ -182,7 +182,11 @@ const LOOPS_AND_CALLS: &[(&str, &[u8], Left)] = &[
 
 // Does the first command of a program, which neither reads nor asks nor shows anything: what it does,
 // and A.
-fn quiet(alloc: Global, program: &Program, registers: &mut Registers) -> (Result<(), Stop>, i16) {
+fn quiet(
+    alloc: Global,
+    program: &Program,
+    registers: &mut Registers,
+) -> (Result<(), CommandStop>, i16) {
     let mut screen = TextScreen::new(alloc);
     let mut output = Output::new();
     let (result, _) = done(program, registers, nothing(), &mut screen, &mut output);
@@ -217,7 +221,7 @@ fn loops_and_calls(rt: HostRuntime) {
 
 // How NEXT is done again and again, where A goes up to 1, the place then, and A: the loop has a turn,
 // is over, and then there is none.
-const TURNS: &[(Result<(), Stop>, (usize, usize), i16)] = &[
+const TURNS: &[(Result<(), CommandStop>, (usize, usize), i16)] = &[
     (Ok(()), (1, 2), 1),
     (Ok(()), (0, 7), 2),
     (fault!(What, 6), (0, 7), 2),
@@ -228,7 +232,7 @@ fn expect_turn(
     rt: &impl Abort,
     alloc: Global,
     (program, registers): (&Program, &mut Registers),
-    (want, place, a): (Result<(), Stop>, (usize, usize), i16),
+    (want, place, a): (Result<(), CommandStop>, (usize, usize), i16),
 ) {
     let (result, a_then) = quiet(alloc, program, registers);
     let found = (result, numbers(registers.place), a_then);

@@ -2,7 +2,7 @@
 
 use crate::tests::commands::{Effect, expect_command};
 use crate::tests::shared::{Doing, NO_ANSWER, Offer, fault, lines_of, table};
-use ptb_command::Stop;
+use ptb_command::CommandStop;
 use ptb_expr::Pause;
 use std::alloc::Global;
 use std::process::Abort;
@@ -10,7 +10,7 @@ use std::process::Abort;
 // Each INPUT with its lines, where RND is answered by 1 and 2: how it is done, what is shown, and A.
 const ITEMS: &[(&str, &[&[u8]], Doing, &[u8], i16)] = table! {
     ("10 IN.A", &[b")", b"5"], Ok((0, 4)), b"A:)\nWHAT?\nA:5\n", 5),
-    ("10 IN.A", &[b")"], Err(Stop::NoInput), b"A:)\nWHAT?\nA:", 0),
+    ("10 IN.A", &[b")"], Err(CommandStop::NoInput), b"A:)\nWHAT?\nA:", 0),
     ("10 IN.A", &[b"", b"1/0", b"@(28)", b"9"], Ok((0, 4)), b"A:\nWHAT?\nA:1/0\nHOW?\nA:@(28)\nSORRY\nA:9\n", 9),
     ("10 IN.\"N\"A,'!'", &[b"2+3 X"], Ok((0, 11)), b"N:2+3 X\n!", 5),
     ("10 IN.@(RND(2)) ,A", &[b")", b"5", b"@(2)"], Ok((0, 15)), b"@(RND(2)):)\nWHAT?\n@(RND(2)):5\nA:@(2)\n", 5),
@@ -53,7 +53,7 @@ const ANSWERED: &[(&str, &[i16], Doing, &[u8], i16)] = table! {
     ("10 IN.'N'A", &[1], Ok((0, 7)), b"N:1\n", 1),
     ("10 IN.A,A", &[1, 2], Ok((0, 6)), b"A:1\nA:2\n", 2),
     ("10 IN.A", &[], NO_ANSWER, b"A:", 0),
-    ("10 IN.A", &[3], Err(Stop::Pause(Pause::OutOfRange(3))), b"A:", 0),
+    ("10 IN.A", &[3], Err(CommandStop::Pause(Pause::OutOfRange(3))), b"A:", 0),
 };
 
 #[test]

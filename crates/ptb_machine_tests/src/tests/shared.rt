@@ -4,7 +4,9 @@ ghost use Rattle.std.specs.Prelude.{◌≡◌, None, Ok, IsTrue};
 ghost use Rattle.ptb_text.specs.Statements.{program};
 ghost use Rattle.ptb_text.specs.Words.{is_letter};
 
-use ptb_command::{CommandIo, Context, Location, Output, Registers, Stack, Stop, first_place};
+use ptb_command::{
+    CommandIo, CommandStop, Context, Location, Output, Registers, Stack, first_place,
+};
 use ptb_devices::{Line, Lines, Screen, WriterScreen};
 use ptb_expr::{Listed, Pause, Store};
 use ptb_machine::{CommandCode, Rules, line_at, translate};
@@ -139,7 +141,7 @@ pub(crate) fn letter(byte: u8) -> Letter
 // A fault with its mark, for tables that are constants.
 macro_rules! fault {
     ($kind:ident, $mark:literal) => {
-        Err(ptb_command::Stop::Fault(ptb_expr::Fault {
+        Err(ptb_command::CommandStop::Fault(ptb_expr::Fault {
             kind: ptb_expr::FaultKind::$kind,
             mark: $mark,
         }))
@@ -213,7 +215,7 @@ pub(crate) fn done<S: Screen>(
     offer: Offer<'_>,
     screen: &mut S,
     output: &mut Output,
-) -> (Result<(), Stop>, bool) {
+) -> (Result<(), CommandStop>, bool) {
     let (_, text) = line_at(program, 0);
     let mut cursor = Cursor::new(text, 0);
     let mut code = CommandCode::new();
@@ -233,16 +235,16 @@ pub(crate) fn done<S: Screen>(
 }
 
 // What a command does: why it stops, or the statement and the place in it at which the run continues.
-pub(crate) type Doing = Result<(usize, usize), Stop>;
+pub(crate) type Doing = Result<(usize, usize), CommandStop>;
 
 // A command that was stopped by a write that failed.
-pub(crate) const UNWRITTEN: Doing = Err(Stop::Unwritten);
+pub(crate) const UNWRITTEN: Doing = Err(CommandStop::Unwritten);
 
 // A command that asked for an answer where none was left.
-pub(crate) const NO_ANSWER: Doing = Err(Stop::Pause(Pause::Ended));
+pub(crate) const NO_ANSWER: Doing = Err(CommandStop::Pause(Pause::Ended));
 
 // What was done with registers. The text of a program is never over after its first command.
-pub(crate) fn doing(done: Result<(), Stop>, registers: &Registers) -> Doing {
+pub(crate) fn doing(done: Result<(), CommandStop>, registers: &Registers) -> Doing {
     match (done, registers.place) {
         (Ok(()), Some(place)) => Ok((place.statement, place.at)),
         (Ok(()), None) => Ok((usize::MAX, usize::MAX)),

@@ -4,7 +4,7 @@ use crate::tests::shared::{
     Counted, Doing, NO_ANSWER, Offer, UNWRITTEN, doing, done, expect_eq, fault, lines_of, table,
     with_line,
 };
-use ptb_command::{Output, PENDING_LIMIT, PendingOutput, Registers, Stop};
+use ptb_command::{CommandStop, Output, PENDING_LIMIT, PendingOutput, Registers};
 use ptb_devices::{Line, WriterScreen};
 use ptb_text::{Device, Program};
 use std::alloc::Global;
@@ -55,8 +55,8 @@ const WRITES: &[Row] = table! {
     ("10 IN.'N'A,B", (&[b"1", b"2"], &[], 5), Ok((0, 9)), (b"N:1\nB:2\n", b"", 8), 4),
     ("10 IN.A", (&[b")", b"5"], &[], 5), Ok((0, 4)), (b"A:)\nWHAT?\nA:5\n", b"", 14), 4),
     ("10 IN.'X'", (&[], &[], 5), Ok((0, 6)), (b"X", b"", 1), 4),
-    ("10 IN.A", (&[], &[], 5), Err(Stop::NoInput), (b"A:", b"", 2), 4),
-    ("10 IN.A", (&[b")"], &[], 5), Err(Stop::NoInput), (b"A:)\nWHAT?\nA:", b"", 12), 4),
+    ("10 IN.A", (&[], &[], 5), Err(CommandStop::NoInput), (b"A:", b"", 2), 4),
+    ("10 IN.A", (&[b")"], &[], 5), Err(CommandStop::NoInput), (b"A:)\nWHAT?\nA:", b"", 12), 4),
     ("10 IN.'N'@(0-1)", (&[], &[], 5), fault!(How, 12), (b"N", b"", 1), 4),
     ("10 IN.'X',A(", (&[b"5"], &[], 5), fault!(What, 8), (b"XA:5\n", b"", 5), 4),
     ("10 IN.A", (&[b"5"], &[], 1), Ok((0, 4)), (b"A:5\n", b"", 4), 0),
