@@ -44,7 +44,7 @@ pub use Rattle.ptb_command.specs.CommandIo.{pending_trace, SameBorrows, SameDevi
 pub use Rattle.ptb_command.specs.Configuration.{Configuration}
 pub use Rattle.ptb_command.specs.Devices.{Devices, with_choices, refused_answers, nothing_refused, refused_by}
 pub use Rattle.ptb_command.specs.Devices.{screen_state, with_screen}
-pub use Rattle.ptb_command.specs.Executed.{IsExecuted, code_of}
+pub use Rattle.ptb_command.specs.ExecutedCommands.{IsExecuted, context_code}
 pub use Rattle.ptb_command.specs.Execution.{FinishesAlone, FinishesAsking}
 pub use Rattle.ptb_command.specs.Loops.{loop_of_open, AddsStep}
 pub use Rattle.ptb_command.specs.Reports.{IsShown}

@@ -16,8 +16,8 @@ use Rattle.ptb_explore.specs.declared.plan.ListingPosition.TheVariants.{AtStart,
 use Rattle.ptb_explore.specs.Plans.{IsLastBelow, PlansNext, IsPosition, front_at, PlanEndsWith}
 use Rattle.ptb_explore.proofs.Order.{before_from_differ, before_front, begins_from, begins_is}
 use Rattle.ptb_explore.proofs.Tree.{run_asks}
-use Rattle.ptb_explore.proofs.Next.{AtTop, IsPlan, is_answer_is, between_none, ones_first, top_last}
-use Rattle.ptb_explore.proofs.Next.{left_after, left_begins, left_from}
+use Rattle.ptb_explore.proofs.NextRuns.{AtTop, IsPlan, is_answer_is, between_none, ones_first, top_last}
+use Rattle.ptb_explore.proofs.NextRuns.{left_after, left_begins, left_from}
 
 -- a list at a place: what is before it, there and after it
 pub split_at : {X : Type 0} (s : List X) (i : ℕ) (d : X) → i < length s

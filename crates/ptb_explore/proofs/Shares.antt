@@ -17,7 +17,7 @@ use Rattle.ptb_machine.specs.RunTree.{Front, Start, IsLast, IsRun, IsRising, Bef
 use Rattle.ptb_machine.specs.RunTree.{begins_with, is_after, is_left, runs_after, tree}
 use Rattle.ptb_explore.proofs.Lists.{IsIn, all_at, answers_in, contained_in, filter_in, in_answers}
 use Rattle.ptb_explore.proofs.Lists.{in_filter, rising_answers, rising_filter}
-use Rattle.ptb_explore.proofs.Next.{IsPlan, left_after, left_begins, left_from}
+use Rattle.ptb_explore.proofs.NextRuns.{IsPlan, left_after, left_begins, left_from}
 use Rattle.ptb_explore.proofs.Order.{before_from_differ, before_more, before_not_back, before_self}
 use Rattle.ptb_explore.proofs.Order.{begins_from, begins_is}
 use Rattle.ptb_explore.proofs.Tree.{run_apart, run_asks, run_open, tree_rises, tree_runs}

@@ -117,6 +117,8 @@ impl<'a> Explorer<'a> {
 
     /// How many commands were played for the runs so far; `u64::MAX` where there were more. A call of
     /// [`next`](Explorer::next) that is refused memory adds fewer than 4,294,967,296.
+    ///
+    /// For users of the library: the program doesn't call it.
     pub fn played(&self) -> u64
         ensures { result ≡ self.now.played }
     {

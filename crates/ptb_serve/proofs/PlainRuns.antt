@@ -26,9 +26,9 @@ use Rattle.ptb_machine.specs.SeededRuns.{seeded_answers}
 use Rattle.ptb_serve.specs.ServedRequests.{AsksForMore, EndsUnread, IsInput, IsPlainRun, IsUnloaded}
 use Rattle.ptb_serve.specs.ServedRequests.{NeedsInput, NeedsWholeInput, ReadsForRun, Serves}
 use Rattle.ptb_serve.specs.ServedRequests.{ServesUnread, SilentBy, StopsForMemory, outcome_of}
-use Rattle.ptb_serve.proofs.Served.{ReadsBy, outcome_wanted, asks_loaded, at_known, each_known, reads_loaded}
-use Rattle.ptb_serve.proofs.Served.{run_no_check, serves_ended, serves_loaded, status_within, unread_loaded}
-use Rattle.ptb_serve.proofs.Served.{wanted_ended}
+use Rattle.ptb_serve.proofs.ServedPrograms.{ReadsBy, outcome_wanted, asks_loaded, at_known, each_known, reads_loaded}
+use Rattle.ptb_serve.proofs.ServedPrograms.{run_no_check, serves_ended, serves_loaded, status_within, unread_loaded}
+use Rattle.ptb_serve.proofs.ServedPrograms.{wanted_ended}
 
 -- the program was played with these answers, which may depend on the lines
 pub record Ran {R : Type 0} (request : Request) (p : StoredProgram) (answers : List (List ℕ)

@@ -1,7 +1,7 @@
 // This file writes a program as text.
 
 ghost use Rattle.std.specs.Prelude.{◌≡◌, ◌≤◌, ℕ, [], IsTrue, OnOk};
-ghost use Rattle.ptb_text.specs.Loading.{GivesProgram};
+ghost use Rattle.ptb_text.specs.ProgramTexts.{GivesProgram};
 ghost use Rattle.ptb_text.specs.Statements.{Statements, cost, is_program, line_of, listing};
 ghost use Rattle.ptb_text.specs.Streams.{WritesText, writes_of};
 

@@ -2,7 +2,7 @@
 use Rattle.std.proofs.Common.{rules, length, ap, ◌∙◌, arith}
 use Rattle.std.proofs.lemmas.List.{drop_all}
 use Rattle.ptb_text.specs.Statements.{listing}
-use Rattle.ptb_text.proofs.Listed.{GivesProgram-listing, listing-drop}
+use Rattle.ptb_text.proofs.ListedPrograms.{GivesProgram-listing, listing-drop}
 use Rattle.ptb_text.proofs.TakenPieces.{gathers_all, piece_taken, piece_fault}
 use Rattle.ptb_text.proofs.WrittenTexts.{failed_after, fails}
 use Rattle.ptb_text.proofs.listing.list.Goals as goal
