@@ -7,7 +7,7 @@ pub use Rattle.ptb_text.specs.Words.{word_at, IsFunction, letter_at, next_byte_a
 pub use Rattle.ptb_text.specs.declared.word.Table.TheVariants.{Functions}
 pub use Rattle.ptb_expr.specs.ReadSteps.{ReadsSteps, FailsSteps, operand_steps}
 pub use Rattle.ptb_expr.specs.Evaluation.{Evaluates, IsEvaluated, IsMarkedWithin, IsTarget, IsWhole, variable_target}
-pub use Rattle.ptb_expr.specs.Evaluation.{variable_there, expression_there}
+pub use Rattle.ptb_expr.specs.Evaluation.{variable_there, expression_there, expression_value}
 pub use Rattle.ptb_expr.specs.Operators.{product_operator, sum_operator, comparison}
 pub use Rattle.ptb_expr.specs.Reading.{item_of}
 pub use Rattle.ptb_expr.specs.Spells.{Spells, Variable, Expr, Sum, First, Product, Factor, Paren}
