@@ -85,7 +85,7 @@ def rows_of(page):
 
 
 def public_functions():
-    """The functions that the libraries of the program export, and the public methods of the types that they export."""
+    """The crate, the type and the name of each function that the libraries export, and of the public methods of their types."""
     for root in sorted(ROOT.glob("crates/*/src/lib.rt")):
         crate = root.parent.parent.name
         exported = set(re.findall(WORD, " ".join(re.findall(r"^pub use [^;]*;", root.read_text(), re.M))))
@@ -96,7 +96,7 @@ def public_functions():
                 owner = opened[1] if opened else None if line == "}" else owner
                 found = re.match(rf"( *)pub (?:const )?fn ({WORD})", line)
                 if found and (owner or found[2]) in exported:
-                    yield crate, found[2]
+                    yield crate, owner, found[2]
 
 
 class Page(unittest.TestCase):
@@ -131,12 +131,13 @@ class Page(unittest.TestCase):
         self.assertEqual(self.malformed, [])
 
     def test_public_functions(self):
-        """Each public function of the libraries is on the page."""
-        named = set(re.findall(WORD, " ".join(CODE.findall(self.page))))
+        """Each public function of the libraries has a promise. The row of a method names its type, too."""
+        named = [set(re.findall(WORD, " ".join(CODE.findall(f"{row[1]} {row[2]}")))) for row in self.promises]
         functions = list(public_functions())
         self.assertTrue(functions)
-        for crate, name in functions:
-            self.holds(name in named, f"no promise of {crate}::{name}")
+        for crate, owner, name in functions:
+            needed = {name, owner or name}
+            self.holds(any(needed <= names for names in named), f"no promise of {crate}::{owner or ''} {name}")
 
     def test_crates(self):
         """There is a row for each crate, and the functions and types of the row are there."""
