@@ -345,16 +345,16 @@ class Heads(unittest.TestCase):
     """The heads of files of definitions and of proofs name what is in them."""
 
     def test_definitions(self):
-        """The head of a file of definitions names one of them. A prelude declares none, and passes on some."""
+        """The head of a file of definitions names the main ones. A prelude declares none, and passes on some."""
         for path in sources.files(ROOT, "specs"):
             text = sources.text_of(path)
             with self.subTest(os.path.relpath(path, ROOT)):
-                words = set(re.findall(r"[^\s,;:()`]+", sources.head(text)))
                 passed_on = set(re.findall(r"\w+", "".join(PASSED_ON.findall(text))))
                 if path.endswith("/Prelude.antt"):
                     self.assertTrue(passed_on and not sources.declared(text))
-                else:
-                    self.assertTrue(words & (sources.declared(text) | passed_on))
+                    continue
+                self.assertTrue(sources.main(text))
+                self.assertLessEqual(sources.main(text), sources.declared(text) | passed_on)
 
     def test_lemmas(self):
         """The head of a file of lemmas names the main ones. A file that exports lemmas declares none."""
@@ -364,9 +364,8 @@ class Heads(unittest.TestCase):
                 if path.endswith("/PublicLemmas.antt"):
                     self.assertTrue(PASSED_ON.findall(text) and not sources.declared(text))
                     continue
-                main = sources.CODE.findall("".join(sources.MAIN.findall(sources.head(text))))
-                self.assertTrue(main)
-                self.assertLessEqual(set(main), sources.declared(text))
+                self.assertTrue(sources.main(text))
+                self.assertLessEqual(sources.main(text), sources.declared(text))
 
 
 # ---- prose

@@ -9,7 +9,8 @@ UNBROKEN = re.compile(r" *#\[tactic\(.*|use [^,]+")
 KEYWORDS = r"(?:(?:abbrev|unfoldable|pub|record|data) )*"
 DECLARED = re.compile(rf"^ *{KEYWORDS}([^\s:(){{}}\[\]]+)(?: .*)?(?: |$)(?::|where|\()", re.M)
 IN_CODE = re.compile(r"\b(?:fn|struct|enum|trait|const|mod|macro_rules!) +([A-Za-z_][A-Za-z0-9_]*)")
-MAIN = re.compile(r"^-- Main (?:lemmas?|definition): (.*)\.$", re.M)
+COMMENT = re.compile(r"--.*")
+MAIN = re.compile(r"^-- Main (?:lemma|definition)s?: (.*)\.$", re.M)
 HEAD = re.compile(r"\A(?:--.*\n)+")
 TABLE_OF_FILES = re.compile(r"^\| ((?:`ptb[a-z_]*`(?:, )?)+) \| ((?:`[A-Z][A-Za-z]*`(?:, )?)+) \|", re.M)
 TITLE = re.compile(r"^#+ .*\((`ptb[a-z_]*`: .*)\)$", re.M)
@@ -42,7 +43,12 @@ def head(text):
 
 def declared(text):
     """The names that a file of definitions or of proofs declares, with those of fields and constructors."""
-    return set(DECLARED.findall(text))
+    return set(DECLARED.findall(COMMENT.sub("", text)))
+
+
+def main(text):
+    """The names of what the head of a file of definitions or of proofs calls the main ones."""
+    return set(CODE.findall("".join(MAIN.findall(head(text)))))
 
 
 def all_names(root):

@@ -1,4 +1,5 @@
 -- This file defines what the program does by its arguments, and the status with which it exits.
+-- Main definition: `ExitsBy`.
 --     unread_status kind              the status where the arguments can't be read, by the kind of the error
 --     wants_seed terminals o          a run that the options ask for draws its seed, at these terminals
 --     with_seed o drawn               the options with the seed that was drawn, if one was

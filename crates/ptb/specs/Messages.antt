@@ -1,4 +1,5 @@
 -- This file defines the lines that say why a run ended, and what was wrong.
+-- Main definitions: `shortage_line` and `reason_line`.
 --     shortage_of path limit n line     why a run with the status n ended before its program did, if it did
 --     shortage_line s       which option helps
 --     mismatch_text m       why the items of a list fit no run

@@ -1,4 +1,5 @@
 -- This file defines how a request is served for a program that was opened, or was not.
+-- Main definition: `ServesOpened`.
 --     IsUntouched input out                       nothing was read of the input, and nothing was written
 --     KeepsPromises text request input out result     `serve` kept its promises
 --     ServesOpened text request opened input out result     for a program that was opened; the note of one that was not

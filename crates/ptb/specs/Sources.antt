@@ -1,4 +1,5 @@
 -- This file defines where the text of a program comes from.
+-- Main definition: `MayOpen`.
 --     open_note kind                 the note of a program that can't be opened, by the kind of the error
 --     source_bytes file input s      the bytes of a source, by those of a file and of standard input
 --     watched_inner w                the reader whose errors are kept

@@ -1,4 +1,5 @@
 -- This file defines what is known of a writer that may leave out what was typed.
+-- Main definition: `unless_watched`.
 --     unless_watched place known     known, where it is not noted what is typed
 use Rattle.std.specs.Prelude.{Option, Some, None}
 

@@ -1,4 +1,5 @@
 -- This file defines the text of a list of answers, as reports show it and the command line has it.
+-- Main definition: `spelling`.
 --     item_text m                   an answer, and its bound where one is stated
 --     spelling list                 items joined by commas, or `none`
 --     answers_of list               the answers of a list

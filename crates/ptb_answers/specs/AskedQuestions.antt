@@ -1,4 +1,5 @@
 -- This file defines the answers and the bounds of a list of questions that were answered.
+-- Main definitions: `answers_in` and `bounds_in`.
 --     answers_in asked    the answers, in order
 --     bounds_in asked     the bounds of their questions
 use Rattle.std.specs.Prelude.{List, map, ℤ}

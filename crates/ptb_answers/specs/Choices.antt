@@ -1,4 +1,5 @@
 -- This file defines what a chooser holds, and what a call that asks it does.
+-- Main definition: `Choices`.
 --     Choices                       the plan, the answers given so far, and their bounds where these are kept
 --     with_answers ts bs c          the same after more answers with these bounds
 --     AnswerList, choices_of l      a list of answers, of which some were given, and what it holds as a chooser

@@ -1,4 +1,5 @@
 -- This file defines the runs whose answers are drawn from the words of a generator.
+-- Main definition: `sampled_runs`.
 --     IsDrawnFrom g f a     a is a run of f, and each of its answers is drawn from the next word of g for the bound of
 --                           its question
 --     answers_by most g f   what a generator draws for the questions of f, one after the other

@@ -1,4 +1,5 @@
 -- This file defines the result of what takes answers from a list, one by one.
+-- Main definition: `Outcome`.
 --     Outcome A W              a result and the answers left, a question without an answer, or an answer outside its
 --                              bound
 --     go_on o next             continues with a result; a question or an outside answer stays what it is

@@ -1,4 +1,5 @@
 -- This file defines which answers a seed gives.
+-- Main definition: `drawn_from`.
 --     generator_of seed            the generator that begins with a seed
 --     generator_after g n          the generator g after n words
 --     drawn_answer word n          the answer to a question with bound n, by a word of a generator

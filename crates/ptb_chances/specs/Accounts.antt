@@ -1,5 +1,6 @@
 -- This file defines accounts of runs: rows of results with their chances and numbers of runs, in any order. A result
 -- may have any number of rows.
+-- Main definition: `IsAccountOf`.
 --     rows_with r ws           the rows of a result
 --     chance_in r ws           the sum of their chances
 --     runs_in r ws             the sum of their runs

@@ -1,4 +1,5 @@
 -- This file defines the chances of what runs result in, and the table of them.
+-- Main definition: `chances`.
 --     RunResult              the ending of a run, and the last line that it showed
 --     chance bounds          1 over the product of the bounds of a run's questions
 --     chance_of_all play rs  the sum of the chances of some runs

@@ -1,4 +1,5 @@
 -- This file defines the results of a plan, and of what follows it up to the next command that asks.
+-- Main definition: `ComesTo`.
 --     GoesOn p rules S before input shown over      from the state S without answers: the run is over, or waits at a
 --                                                   place
 --     ComesTo p rules S given plan before input shown played     with a plan: it is over, asks, or waits at a place

@@ -1,4 +1,5 @@
 -- This file defines how far the runs of a stage's program are counted.
+-- Main definition: `IsTallied`.
 --     IsTallied s tally ws     with what waits, the tally is the account of all runs
 --     load_left s ws           more than is left to be done
 use Rattle.std.specs.Prelude.{ℕ, List}

@@ -1,4 +1,5 @@
 -- This file defines the results and the rows that a tally holds.
+-- Main definition: `rows_of`.
 --     key_result k     the result of a key
 --     row_of_share e   the row of an entry
 --     rows_of es       the rows of entries

@@ -1,4 +1,5 @@
 -- This file has the law that the order of results is total.
+-- Main lemma: `result_order_total`.
 --     result_order_total     the order `result_order` is total
 use Rattle.std.specs.Cmp.{IsTotalOrder, nat_cmp_total, on_total, then_total}
 use Rattle.std.specs.Cmp.Lexicographic.{nat_list_cmp_total}

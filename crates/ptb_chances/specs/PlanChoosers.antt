@@ -1,4 +1,5 @@
 -- This file defines what the chooser of a plan holds.
+-- Main definition: `PlanAnswers`.
 --     PlanAnswers                    the answers of a plan, how many of them were given, and the bound of the question
 --                                    that was refused last
 --     plan_choices l                   what it holds as a chooser

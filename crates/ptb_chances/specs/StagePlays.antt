@@ -1,4 +1,5 @@
 -- This file defines where a play is, and its results with some more answers.
+-- Main definition: `IsStageAt`.
 --     SameEnd s t                      whatever is shown next, the last line is the same after s and after t
 --     IsStageAt p rules m left shown S      a machine represents the state S; these lines are left, and this was shown
 --                                          last

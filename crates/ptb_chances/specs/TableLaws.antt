@@ -1,4 +1,5 @@
 -- This file states the laws of tables of chances.
+-- Main definition: `TableLaws`.
 --     TableLaws play most      what the table of all runs has, where none has more answers than `most`
 use Rattle.std.specs.Prelude.{◌≡◌, ℕ, ◌<◌, List, length}
 use Rattle.ptb_numbers.specs.Fractions.{Equals}

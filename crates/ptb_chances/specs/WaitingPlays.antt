@@ -1,4 +1,5 @@
 -- This file defines the plays that wait to be continued.
+-- Main definition: `Accounted`.
 --     Standing                       where plays are, the answers that each of them takes next, their chance and
 --                                    their number
 --     planned, unplanned             what the code holds of it

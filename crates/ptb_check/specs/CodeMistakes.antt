@@ -1,4 +1,5 @@
 -- This file defines the mistake of a command by its code.
+-- Main definition: `code_mistake`.
 --     code_mistake p steps operations      the fault of the first operation that has one in any run, or a jump to no
 --                                          statement
 use Rattle.std.specs.Prelude.{List, [], ◌∷◌, Option, Some, None}

@@ -1,4 +1,5 @@
 -- This file states that the mistakes of a program are all those that its runs can meet in its text.
+-- Main definition: `CheckLaws`.
 --     IsReported p q c         the command c, whose place is q, is well formed, or its mistake is one of the program's
 --     FaultsAt p S             so it is with the command that is next in the state S
 --     CodeMistakeLaws          the code of a command has its mistake

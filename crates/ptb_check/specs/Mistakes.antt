@@ -1,4 +1,5 @@
 -- This file defines the mistakes in the text of a program.
+-- Main definition: `mistakes`.
 --     part_fault part          the fault in a part of a command
 --     parts_fault parts        that of the first part which has one
 --     jump_number kind parts   the written number of the statement to which a command goes

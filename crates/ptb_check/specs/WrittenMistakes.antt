@@ -1,4 +1,5 @@
 -- This file defines how mistakes are written.
+-- Main definition: `WritesMistakes`.
 --     texts due                      the texts of mistakes, one after the other
 --     has_any due                    there is one
 --     WritesMistakes due old new result    these mistakes were written, or a prefix of their texts where the writer

@@ -1,4 +1,5 @@
 -- This file defines what a command does.
+-- Main definition: `act`.
 --     parts_action parts w operands    the parts of a command, one after the other
 --     finish kind p q ..               what a command does once its parts are done
 --     act p q c                        an entire command, whose fault is reported

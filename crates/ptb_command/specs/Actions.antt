@@ -1,4 +1,5 @@
 -- This file defines the result of a part of a command, and how one part follows another.
+-- Main definition: `Action`.
 --     Action A                  what is done in a state with a list of answers: it continues with an A in another
 --                               state, or halts
 --     and_then m next           one after the other

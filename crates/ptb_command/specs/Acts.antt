@@ -1,4 +1,5 @@
 -- This file defines the result of a command for an entire machine.
+-- Main definition: `Acts`.
 --     Refines p old new o n f g           from machine to machine and devices to devices, what f does is what is left
 --                                         to do for g
 --     Acts refused p old new o n f r   f has the result r

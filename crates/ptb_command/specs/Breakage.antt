@@ -1,4 +1,5 @@
 -- This file defines which device has failed where one stops a command.
+-- Main definition: `Breakage`.
 pub data Breakage : Type 0 where
   -- a device was refused memory
   Memory : Breakage

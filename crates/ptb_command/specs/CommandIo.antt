@@ -1,4 +1,5 @@
 -- This file defines what the devices of a command hold.
+-- Main definition: `io_trace`.
 --     io_devices choices screen most io given         what they hold, besides the lines that the source gave
 --     io_trace choices screen most io given cells     the trace at which the devices are
 --     pending_trace choices screen most io given cells pending  the same, with bytes that are gathered

@@ -1,4 +1,5 @@
 -- This file states how the parts of a command and the commands of a statement follow one another.
+-- Main definition: `CommandLaws`.
 --     CommandLaws                               the laws, in one record
 --     let_round, input_round, print_round t     one round of the items of LET, INPUT and PRINT
 use Rattle.std.specs.Prelude.{◌≡◌, ℕ, ◌+◌, ◌-◌, ◌<◌, true, false, List, [], ◌∷◌, length, Some, None, slice_get}

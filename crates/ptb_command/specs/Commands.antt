@@ -1,4 +1,5 @@
 -- This file defines a statement as a list of commands. A command is its word and its parts in order.
+-- Main definition: `commands`.
 --     commands t               the commands of the statement text t
 --     commands_from t i        those from place i on
 --     command_at t i           the command at place i; LET where there is no word

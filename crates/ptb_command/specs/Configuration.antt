@@ -1,4 +1,5 @@
 -- This file defines what a machine holds, as contracts see it.
+-- Main definition: `Configuration`.
 --     Configuration                        the record that contracts see of a machine
 --     configuration r steps fresh spent    the configuration with these registers
 use Rattle.std.specs.Prelude.{ℕ, Bool, List, Option}

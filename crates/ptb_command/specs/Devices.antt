@@ -1,4 +1,5 @@
 -- This file defines what the devices of a run hold, and what passes between them and the run.
+-- Main definition: `Devices`.
 --     Devices                  the chooser's answers, the screen, the lines that the source gave, and those it can give
 --     Exchange                 answers with their bounds, bytes that are shown, and lines that are given
 --     both_exchanges x y       one exchange after another

@@ -1,4 +1,5 @@
 -- This file defines what a command may change of the state in which it begins.
+-- Main definition: `CommandChange`.
 --     action_state o, act_state o      the state in which an action, or an entire command, continues, halts or asks
 --     Begins shown all                 all of it begins with what is shown
 --     TakesLines lines left            of the lines some were taken, from the first on, and these are left

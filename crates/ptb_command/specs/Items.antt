@@ -1,4 +1,5 @@
 -- This file defines items that follow one another in a text.
+-- Main definition: `items`.
 --     items t round i          what the rounds read from place i on, one after the other
 --     Advances t round         a round that continues does so further ahead in the text
 --     LiesOn t i j             j is a place that something read at i may end at, even if nothing is taken

@@ -1,4 +1,5 @@
 -- This file defines for which places of the definition the places of a program stand.
+-- Main definition: `PlacesAre`.
 --     PlaceIs p q m            a place of the definition is one of the program
 --     PlacesAre p q m          the same of two places that may be none
 --     IsLineAt p i n t         the number and the text of a statement

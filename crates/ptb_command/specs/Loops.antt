@@ -1,4 +1,5 @@
 -- This file defines the result of the step of NEXT.
+-- Main definition: `AddsStep`.
 --     loop_of_open back m      an open loop, with the place to which it goes back
 --     AddsStep l old new b r   what the sum r makes of the cells, and whether the loop continues
 use Rattle.std.specs.Prelude.{◌≡◌, Bool, false, not, ℤ, Result, Ok, Err}

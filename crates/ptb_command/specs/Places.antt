@@ -1,4 +1,5 @@
 -- This file defines where in the text of a statement its commands begin.
+-- Main definition: `At`.
 --     At t k b                 index k among the commands of t, and byte place b in t, are one place
 --     begin_of t k             the byte place at which the command of index k begins
 --     commands_after t r       the commands that a round reads, and those after it

@@ -1,4 +1,5 @@
 -- This file defines what the readers of a statement give.
+-- Main definition: `IsRead`.
 --     IsRead t i r j       what was read at place i is whole, and j, which lies ahead, is the place after it
 --     IsClosed t i r j     the same of the parts of a command that ends at j
 --     NextBegins t i j        after a command that ends at i the next one begins at j

@@ -1,4 +1,5 @@
 -- This file defines the result of showing bytes.
+-- Main definition: `IsShown`.
 --     IsShown o n bytes result     from trace o to trace n, the bytes were shown, or why they were not
 use Rattle.std.specs.Prelude.{ℕ, List, Result, Ok, Err}
 use Rattle.ptb_text.specs.declared.device_fault.DeviceFault.{DeviceFault}

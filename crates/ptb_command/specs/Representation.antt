@@ -1,4 +1,5 @@
 -- This file defines which states of a run a machine represents.
+-- Main definition: `Represents`.
 --     Nested p os loops calls  the levels of the definition are what is open, newest first
 --     Represents p m S             the machine represents the state S, whatever was shown and whichever lines are left
 --     Begun p q k t word i     a command is begun: its word, which ends at i, was read

@@ -1,4 +1,5 @@
 -- This file defines what is found, closed and removed in a list of open loops and calls, newest first.
+-- Main definition: `ClosesNewer`.
 --     call_of os               the place to which the newest call returns, and what is open below it
 --     loop_of x os             the newest level's loop of the variable x, and what is open below it
 --     newest_loop os           the newest of all, if it is a loop

@@ -1,4 +1,5 @@
 -- This file defines the result of a part of a command, where it stops and where it continues.
+-- Main definition: `Comes`.
 --
 -- Where a device stops it, `left` is what is left to do. A question that was refused, or a line that isn't there, is
 -- what is left next; where a device broke, the screen may have shown some of what is left.

@@ -1,4 +1,5 @@
 -- This file defines how far something has come that is done while it is read.
+-- Main definition: `Trace`.
 --     Trace                    the devices, what of a state the parts of a command change, and what is still to be
 --                              shown
 --     with_pending pending o   the same trace, with these bytes to be shown next

@@ -1,4 +1,5 @@
 -- This file defines what the value of an expression of a command is, with what was asked for it.
+-- Main definition: `IsValueOf`.
 --     IsValueOf chooser steps e cells old new r     r comes of the expression e, for which the chooser went from old to
 --                                                   new
 use Rattle.std.specs.Prelude.{ℕ, ℤ, Bool, List, Result}

@@ -1,4 +1,5 @@
 -- This file proves what bytes after other bytes are cut into. `InputLaws` cites these proofs, and is in `specs/`.
+-- Main lemma: `whole_lines-append`.
 --     last_piece-append      the last piece of bytes after other bytes
 --     whole_lines-append     the complete lines of bytes after other bytes
 use Rattle.std.proofs.Common.{◌≡◌, ℕ, Bool, true, false, List, [], ◌∷◌, ◌++◌, Option, Some, None, refl, ap}

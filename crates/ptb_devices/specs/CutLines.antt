@@ -1,5 +1,6 @@
 -- This file defines how cleaned lines are cut from bytes that come one after the other.
 -- A piece that has not begun is None. One that has begun, be it with a byte that is dropped, is what is kept of it.
+-- Main definition: `whole_lines`.
 --     begun_piece begun kept       a piece, by whether it has begun
 --     cleaned_byte b               what the cleaning makes of one byte: that byte, another or nothing
 --     StayUpTo bytes n             the cleaning leaves the first n bytes as they are

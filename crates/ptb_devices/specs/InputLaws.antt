@@ -1,5 +1,6 @@
 -- This file proves the laws of an input that continues, as a line source has to keep them. The proofs, some of them by
 -- `omega`, are in `specs/` because ghost members of `ReaderLines` state the laws, and may name only what is here.
+-- Main lemma: `ReadsOn_more`.
 --     none_known                       where no line can be given, none is left
 --     ReadsOn_none, ReadsOn_more       no line was taken; lines were taken in two parts
 --     Loses_none, Loses_more           the same for the lines alone

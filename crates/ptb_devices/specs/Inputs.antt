@@ -1,4 +1,5 @@
 -- This file defines how the lines of an input come while they are asked for one by one.
+-- Main definition: `ReadsOn`.
 --     InputState                     what has come of an input and was not given
 --     fresh_input                    the same before anything has come
 --     IsWithin                       what a buffer holds of it

@@ -1,5 +1,6 @@
 -- This file proves the laws of a source of lines over a reader. The proofs are in `specs/` because ghost members of
 -- `ReaderLines` state the laws, and may name only what is here.
+-- Main lemma: `GivesFrom_more`.
 --     GivesFrom_none, GivesFrom_more     no line was given; lines were given in two parts
 use Rattle.std.proofs.Common.{ℕ, List, [], ◌++◌, Option, refl, ◌∙◌}
 use Rattle.ptb_devices.specs.declared.reader_lines.ReaderLines.{ReaderLines}

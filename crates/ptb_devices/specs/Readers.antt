@@ -1,4 +1,5 @@
 -- This file defines what a source of lines over a reader holds, and how it continues.
+-- Main definition: `line_input`.
 --     line_reader s                the reference to the reader that the lines come from
 --     line_input s                 what has come of the input and was not given
 --     GivesFrom s given t          between two states of it, these lines were given

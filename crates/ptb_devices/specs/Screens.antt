@@ -1,4 +1,5 @@
 -- This file defines what a screen holds.
+-- Main definition: `screen_writer`.
 --     screen_writer s          the reference to the writer that a screen shows its bytes to
 --     IsScreenFault fault      a screen can have this fault
 use Rattle.std.specs.Borrow.{MutBor}

@@ -1,4 +1,5 @@
 -- This file defines what a line source gives.
+-- Main definition: `Loses`.
 --     Loses old new given          known lines begin with those given, and lose them
 --     NoneLeft lines               no known line is left
 --     given_lines result           the line that a call gave, if it gave one

@@ -1,4 +1,5 @@
 -- This file defines the lists of at most n answers that split the runs of what takes answers one by one.
+-- Main definition: `beginnings`.
 --     stopped n play            play, which is over where it asks for more than n answers
 --     beginnings n play         its runs
 --     IsBeginning n play u      u is a run of at most n answers, or n answers after which play asks

@@ -1,4 +1,5 @@
 -- This file defines when the copies of machines that are kept of a run are sound, and which run continues from which.
+-- Main definition: `AreCopies`.
 --     machine_of k, steps_of k               the machine of a copy, and how many commands it had begun
 --     IsCopyOf m taken shown lines k         a copy of this machine, which had come so far
 --     IsSameCopy k j                         j is a copy as k is

@@ -1,4 +1,5 @@
 -- This file defines what contracts see of an explorer, and what its calls leave.
+-- Main definition: `exploration`.
 --     Exploration                  what is explored, and where the explorer is
 --     exploration p input ..       an explorer of a program on these lines
 --     play_of e, most_of e         what is played, and how many answers a run can have

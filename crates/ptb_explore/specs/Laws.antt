@@ -1,4 +1,5 @@
 -- This file states the laws of runs.
+-- Main definition: `TreeLaws`.
 --     TreeLaws        the tree has the runs, each once, in order
 --     ListingLaws     what a listing has left, and that one after a run resumes where one that ended with it stopped
 --     ShareLaws       the runs that begin with some answers are those of its shares, one after the other

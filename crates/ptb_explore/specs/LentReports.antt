@@ -1,4 +1,5 @@
 -- This file defines what an explorer is once the report that it lent is given back.
+-- Main definition: `NextRests`.
 --     NextRests e result       it is what the search for the next run left
 use Rattle.std.specs.Prelude.{[], Option, Result}
 use Rattle.std.specs.declared.alloc.AllocError.{AllocError}

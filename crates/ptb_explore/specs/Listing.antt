@@ -1,5 +1,6 @@
 -- This file defines what a listing of the runs that begin with `under` leaves. `report` gives the text of the report
 -- of a run.
+-- Main definition: `WritesRuns`.
 --     text report list                  the reports of a list of runs, one after the other
 --     front_after f list                     where a listing is after a list of runs
 --     less_one n                        how many may still be written after one more

@@ -1,4 +1,5 @@
 -- This file defines when a list of answers, of which some may have bounds, is a run.
+-- Main definition: `IsMarkedRun`.
 --     states_bounds list bounds    whether each bound that is stated is that of the question
 --     IsMarkedRun play list        the answers are a run, and each bound that is stated is that of its question
 --     IsMarkedBeginning play list  a run begins with the answers, and each bound that is stated is that of its question

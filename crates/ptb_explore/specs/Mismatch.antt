@@ -1,4 +1,5 @@
 -- This file defines why the items of a list are no run, or why no run begins with them. Items count from 1.
+-- Main definitions: `IsItemMismatch` and `IsRunMismatch`.
 --     IsUnder under list                      the answers of the list begin with those of another
 --     IsQuestion play items bound             after these items a run asks for an answer from 1 to the bound
 --     IsAskedFor play list item m bound       a run begins with the items before m, and asks for m with this bound

@@ -1,4 +1,5 @@
 -- This file defines where an explorer is that was opened, and how many commands were played to open it.
+-- Main definition: `first_front`.
 --     first_front after                where it is: before the first run, or at the run of a list
 --     IsRunUnder play under list     the list is a run that begins with the answers of another
 --     IsRefusedRun play under after m    a run is named, and m says why it is no run that begins so

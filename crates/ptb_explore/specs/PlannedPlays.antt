@@ -1,4 +1,5 @@
 -- This file defines the result of a run that is played with the answers of a plan, and 1 to each question after them.
+-- Main definition: `PlayEnds`.
 --     Holds play c left                      what a chooser holds, and what of the play is left to be done
 --     NextIsOutside play c bound             the plan's next answer is outside the bound of its question
 --     PlayEnds play c bound steps shown ending    the play has this ending; the bound is that of the question where an

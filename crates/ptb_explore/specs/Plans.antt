@@ -1,4 +1,5 @@
 -- This file defines plans: the first answers of the next run, which continues with the least answers.
+-- Main definition: `PlansNext`.
 --     IsLastBelow floor answers bounds i          the last answer from a place on that can be raised is the one at i
 --     PlansNext under position answers bounds plan o    the plan raises that answer by one and drops those after it;
 --                                                       `under` stays

@@ -1,4 +1,5 @@
 -- This file defines what a recorder holds, and why it gives no answer.
+-- Main definition: `recorded`.
 --     recorded r                   the answers of a recorder: those that it gave, and then those that are planned
 --     given_bounds r               the bounds of those that it gave
 --     recorder_choices r                 a recorder as a chooser: its plan, what it gave, and with which bounds

@@ -1,4 +1,5 @@
 -- This file defines the reports of runs.
+-- Main definition: `report`.
 --     report form play answers                the report of the run of these answers, in a form
 use Rattle.std.specs.Prelude.{ℕ, List, []}
 use Rattle.ptb_answers.specs.Outcome.{Answers, Outcome, Done, Asks, Out, bounds}

@@ -1,4 +1,5 @@
 -- This file defines the header of a report as far as its items, and what is kept of it.
+-- Main definition: `begun`.
 --     begun items              the header up to the end of these items
 --     marked_of kept             the item that is kept
 --     marked_items kept            the items that are kept

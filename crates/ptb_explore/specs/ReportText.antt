@@ -1,4 +1,5 @@
 -- This file defines the text of a report and of a list of answers.
+-- Main definition: `report_text`.
 --     header items word steps size            the first line: RUN, the answers, how the run ended, its steps, how many
 --                                             bytes it showed
 --     asked_items form asked                  the answers of a run, each with its bound, as a form has them

@@ -1,5 +1,6 @@
 -- This file defines what the writing of a sample leaves, and states the laws of samples. `report` gives the text of
 -- the report of a run.
+-- Main definition: `SampleLaws`.
 --     WritesRun report a old new r         the report of the run a was written, or nothing, or a prefix of it
 --     WritesSample report list old new r   the reports of these runs were written, or those of the first of them
 --     PlaysDrawn play first s f            the run whose answers a chooser has drawn ends so

@@ -1,4 +1,5 @@
 -- This file defines what `evaluate` and `target` promise.
+-- Main definition: `Evaluates`.
 --     expression_there s, variable_there s           what is read of the expression, and of the variable, at a cursor
 --     expression_value c s, variable_target c s      its value, and where a value is stored
 --     Evaluates refused f c d result                 f was evaluated to the result, between two states of a chooser

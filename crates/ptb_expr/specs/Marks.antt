@@ -1,4 +1,5 @@
 -- This file states that the marks of what is read lie within its text.
+-- Main definition: `MarkLaws`.
 --     MarksWithin n x      no mark of the tree x is above n
 --     MarkLaws             so it is with what is read of a text, and with the fault of each tree
 use Rattle.std.specs.Prelude.{◌≡◌, ℕ, ◌≤◌, List, length, Err}

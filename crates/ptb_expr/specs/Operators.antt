@@ -1,4 +1,5 @@
 -- This file defines how operators are written.
+-- Main definitions: `product_operator`, `sum_operator` and `comparison`.
 --     product_operator, sum_operator, comparison     the operator of this kind at a place of a text, and the place
 --                                                    after it
 use Rattle.std.specs.Prelude.{ℕ, List, Option, option_map}

@@ -1,4 +1,5 @@
 -- This file defines how an expression is spelled: the longest reading at a place, and the place after it.
+-- Main definition: `expression`.
 --
 --     expr     = sum | sum comparison sum
 --     sum      = [ "+" | "-" ] product { ( "+" | "-" ) product }

@@ -1,4 +1,5 @@
 -- This file defines the grammar of expressions as a relation, one case a rule, and states its laws.
+-- Main definition: `Spells`.
 --     Spells t part i r        r is the longest reading of the part at place i of the text t
 --     SpellingLaws             what `expression` and `variable_tree` read is so spelled, and nothing else is
 use Rattle.std.specs.Prelude.{◌≡◌, ℕ, ◌-◌, ◌<◌, List, length, ℤ, Some, None}

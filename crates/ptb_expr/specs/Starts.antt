@@ -1,4 +1,5 @@
 -- This file defines what is before a part of the grammar, or alone in its place.
+-- Main definition: `IsBefore`.
 --     IsBefore t unary inner outer i j     between i and j is what makes `outer` of the part `inner` after it
 --     IsFirst before, IsLater before        whether that is before the first product of a sum, or before a later one
 --     sign_of before                       what is done with the first

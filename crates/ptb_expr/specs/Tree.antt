@@ -1,4 +1,5 @@
 -- This file defines expressions as trees. A node is marked at its end, after any blanks there.
+-- Main definition: `Tree`.
 --     Tree            an expression, or what is malformed in it
 --     questions x     how many RNDs a tree has
 use Rattle.std.specs.Prelude.{ℕ, ◌+◌, ℤ}

@@ -1,5 +1,6 @@
 -- This file defines the value of an expression. The left operand is evaluated first; the right one gets the
 -- answers that are left.
+-- Main definition: `value`.
 --     value c x                the value of the tree x, with the cells c
 --     target_of c x            what the tree of a variable names: a letter, or an element whose index is evaluated
 --     operation op v w         what an operator gives

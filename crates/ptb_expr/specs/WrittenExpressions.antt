@@ -1,4 +1,5 @@
 -- This file defines what is in the text of an expression, whatever the expression evaluates to.
+-- Main definition: `written_fault`.
 --     written_fault x          the fault of the part of the tree x that is missing, too big or not closed
 --     written_number x         the number that the tree x is
 --     first_fail steps         the fault of the first step that has one always

@@ -1,4 +1,5 @@
 -- This file states which endings a run can have.
+-- Main definition: `EndingLaws`.
 --     IsRunEnding choose ending    play that isn't short of answers can end so
 --     EndingLaws               play ends in no other way, whatever the answers
 use Rattle.std.specs.Prelude.{◌≡◌, ℕ, List, ℤ, Option, None}

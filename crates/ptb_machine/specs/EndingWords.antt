@@ -1,4 +1,5 @@
 -- This file defines the word of an ending, as a report has it.
+-- Main definition: `ending_word`.
 --     ending_word ending     the word
 --     field bytes            a field of a line: a space before its bytes
 use Rattle.std.specs.Prelude.{ℕ, List, [], ◌++◌, codes}

@@ -1,4 +1,5 @@
 -- This file states the laws of actions and runs.
+-- Main definitions: `EffectLaws` and `RunLaws`.
 --     EffectLaws       what actions, commands, turns and runs may change
 --     RunLaws          how a run continues
 use Rattle.std.specs.Prelude.{◌≡◌, ℕ, ◌+◌, ◌-◌, ◌<◌, ◌≤◌, List, Option, ℤ}

@@ -1,4 +1,5 @@
 -- This file defines the result of a run whose chooser notes where another one was refused memory.
+-- Main definition: `noted_result`.
 --     noted refused refuses z n      why it gives no answer, where `refuses` says why the other one doesn't
 --     noted_result refused result    the result of a run: lack of memory where the run stopped for that
 use Rattle.std.specs.Prelude.{ℤ, Bool, true, false, Result, Ok, Err, if◌then◌else◌}

@@ -1,4 +1,5 @@
 -- This file defines what a plain run shows and reads.
+-- Main definition: `PlaysWith`.
 --     ShowsRun r old new e       of a run with the bytes and the ending r, the bytes were shown and the ending is e
 --     lines_come taken           the lines that came complete in these bytes
 --     IsUnreadable known old new the input could not be read, or is too long

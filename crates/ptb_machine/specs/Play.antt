@@ -1,4 +1,5 @@
 -- This file defines complete runs.
+-- Main definition: `play`.
 --     turn p limit S           the next thing that a run does
 --     all_turns p limit S a    the last state of a run, and its ending there
 --     run_from p rules S a     what is left of a run from the state S on

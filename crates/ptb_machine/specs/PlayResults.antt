@@ -1,4 +1,5 @@
 -- This file defines the result of a play of the definition with its devices, by the result of its run.
+-- Main definition: `RunComes`.
 --
 -- The result says how far the play was done: to its end; to a question that was refused, or a line that
 -- isn't there; or to where a device failed, so that a prefix of it was shown.

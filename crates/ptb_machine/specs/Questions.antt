@@ -1,4 +1,5 @@
 -- This file defines how many answers a run can take.
+-- Main definition: `most_answers`.
 --     most_answers p input limit       no run of the program p takes more
 --     answers_left p limit S           nor does it from the state S on
 use Rattle.std.specs.Prelude.{ℕ, ◌+◌, ◌-◌, ◌*◌, List, length, sum_by}

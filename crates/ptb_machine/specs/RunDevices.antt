@@ -1,4 +1,5 @@
 -- This file defines the three devices of a run as the contracts of steps and runs see them.
+-- Main definition: `run_devices`.
 --     RunDevices C S L, run_devices    a chooser, a screen and a line source
 --     held ..                          what they hold, with the lines that the source gave
 --     refusals ..                      what holds after one of them refused something

@@ -1,4 +1,5 @@
 -- This file defines the runs of what takes answers one by one, their order, and how a listing goes through them.
+-- Main definition: `IsRun`.
 --     IsRun play a                     play has a result, and uses up the answers
 --     is_before a b, Before a b        where a and b first differ, a's answer is the smaller
 --     tree play most                   all runs, where none has more answers than this

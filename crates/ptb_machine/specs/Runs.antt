@@ -1,6 +1,7 @@
 -- A run is the play of the definition (`Runs`): its ending, the bytes that it shows, the answers that it
 -- takes and the lines that it asks for are those of `play`, whatever lines follow those that the
 -- source gave. Where a device refused something, a prefix of that play was done.
+-- Main definition: `IsCompleteRun`.
 --     IsCompleteRun .. p rules o n r          all that a run promises: with devices o, then n, it has the result r
 --     Runs refused p rules o n r      the same, by what the devices hold
 --     run_miss r                      whether the result reports that a line was asked for without success

@@ -1,4 +1,5 @@
 -- This file defines the run that a seed makes, and states what it is.
+-- Main definition: `IsDrawn`.
 --     IsDrawn seed play a              a is a run, and its answers are drawn from the seed for the bounds of its
 --                                      questions
 --     seeded_answers seed p input rules     the answers of the run of a program by a seed

@@ -1,4 +1,5 @@
 -- This file defines two programs whose commands are at the same places.
+-- Main definitions: `IsCounting` and `IsPrinting`.
 --     IsCounting p     the program of a sum, done again and again
 --     IsPrinting p     the program of an empty line, shown again and again
 use Rattle.std.specs.Prelude.{◌≡◌, codes, Ok}

@@ -1,4 +1,5 @@
 -- This file defines how lists of answers are written.
+-- Main definition: `SpellsList`.
 --     IsAnswer k             a number that a list can have
 --     IsItem m               an answer that a list can have, with its bound or without
 --     SpellsNumber s k       the text s writes the number k

@@ -1,4 +1,5 @@
 -- This file defines the command line as clap reads it.
+-- Main definition: `tool`.
 --     tool                the command with its options, in the order in which help shows them
 --     rule_of_listed a    the rule of an argument as the program lists it
 use Rattle.std.specs.Prelude.{List, [], ◌∷◌, Some, pos, codes, true, ℕ}

@@ -1,4 +1,5 @@
 -- This file defines what is wrong with a text that should spell a list of answers.
+-- Main definition: `IsListMistake`.
 --     list_pieces s                  the texts between the commas of s
 --     IsItemOf bounds w         the text w spells an item of a list with bounds, or without
 --     IsListOf bounds s         the text s spells such a list

@@ -1,4 +1,5 @@
 -- This file defines the texts of messages about the arguments.
+-- Main definition: `number_text`.
 --     option_text option     an option that takes a list, as it is written
 --     range_text range       which numbers an option takes
 --     number_text wrong      a value that is no number in the range of its option

@@ -1,4 +1,5 @@
 -- This file defines what the arguments of the command line ask for.
+-- Main definition: `options_of`.
 --     entries_of m               what clap found, as its entries
 --     Options, options_of e      what the options say by these entries
 --     HasMemorySize o            --memory gives a size that a program can have

@@ -1,4 +1,5 @@
 -- This file defines the status that the program exits with where there is no request to serve.
+-- Main definitions: `usage_status` and `refusal_status`.
 --     usage_status fault         where the options don't go together
 --     refusal_status kind        where clap refuses the arguments, or shows the help or the version
 use Rattle.std.specs.Prelude.{ℕ}

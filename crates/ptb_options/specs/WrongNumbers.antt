@@ -1,4 +1,5 @@
 -- This file defines which argument is refused because it is no number in the range of its option.
+-- Main definition: `IsWrongNumber`.
 --     option_word name                the argument that names an option
 --     IsNumberOption word o           the argument names the option o, which takes a number
 --     IsWrongFor o value w            w is the value, which is no number in the range of o

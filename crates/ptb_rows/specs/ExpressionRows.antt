@@ -1,4 +1,5 @@
 -- This file has worked rows of expressions.
+-- Main definition: `ValueRows`.
 --     ValueRows     the rows
 use Rattle.std.specs.Prelude.{◌≡◌, ℕ, List, [], ◌∷◌, ℤ, pos, negsuc, codes, Result, Ok, Err}
 use Rattle.ptb_expr.specs.declared.fault.Fault.{Fault}

@@ -1,4 +1,5 @@
 -- This file has worked rows of loading, listing, words and tokens.
+-- Main definition: `LoadingRows`.
 --     LoadingRows     rows of loading and listing
 --     WordRows        rows of words and tokens
 use Rattle.std.specs.Prelude.{◌≡◌, ℕ, List, [], ◌∷◌, ◌++◌, Some, None, Ok, Err, pos, codes, replicate}

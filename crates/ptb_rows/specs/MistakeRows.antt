@@ -1,4 +1,5 @@
 -- This file has worked rows of the mistakes in the text of a program.
+-- Main definition: `MistakeRows`.
 --     MistakeRows     the rows
 use Rattle.std.specs.Prelude.{◌≡◌, ℕ, List, [], Option, Some, None, Ok, Err, codes}
 use Rattle.ptb_text.specs.Statements.{program}

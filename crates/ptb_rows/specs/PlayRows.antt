@@ -1,4 +1,5 @@
 -- This file has worked rows of plain runs.
+-- Main definitions: `PrintRows` and `LoopRows`.
 --     AnswerRows, PrintRows, InputRows, LoopRows     rows of one kind of command each
 --     RunFaultRows, ArrayRows, LongRows, StepRows    rows of faults, of the array, of long runs, of numbers of steps
 use Rattle.std.specs.Prelude.{◌≡◌, ℕ, List, [], ◌∷◌, ◌++◌, Option, Some, None, Ok, Err, pos, codes, replicate}

@@ -1,4 +1,10 @@
 -- This file has worked rows of the whole tool and of its command line.
+-- Main definitions: `RunRows`, `AllRows` and `OptionRows`.
+--     RunRows, SeedRows, ChoiceRows, ProgramRows, ExampleRows, LongRunRows     rows of plain runs
+--     AllRows, AfterRows, BoundRows, ShareRows, SplitRows     rows of listings, of shares, and of lists that split them
+--     SampleRows, ChanceRows                     rows of samples and of tables of chances
+--     RefusalRows, ListingRows, CheckRows        rows of texts: refused, listed, with mistakes
+--     OptionRows, ClashRows, ListRows, FaultRows     rows of the command line
 use Rattle.std.specs.Prelude.{◌≡◌, ℕ, List, [], ◌∷◌, ◌++◌, Bool, true, Option, Some, None, Ok, Err}
 use Rattle.std.specs.Prelude.{ℤ, pos, codes, flat_map, replicate, option_map, ◌≤ℤ◌}
 use Rattle.std.specs.Int.Signed.{le_z_yes}

@@ -1,5 +1,6 @@
 -- This file has worked rows of samples: of the runs that a seed draws, one after the other. The words of the
 -- generators are those of the reference implementation of PCG32.
+-- Main definition: `SampledRunRows`.
 --     SampledRunRows     the rows
 use Rattle.std.specs.Prelude.{◌≡◌, ℕ, [], ◌∷◌, codes}
 use Rattle.rand_pcg.specs.Pcg.{pcg32}

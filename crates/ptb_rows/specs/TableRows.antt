@@ -1,4 +1,5 @@
 -- This file has worked rows of the chances of results.
+-- Main definition: `TableRows`.
 --     TableRows     the rows
 use Rattle.std.specs.Prelude.{◌≡◌, ℕ, List, [], ◌∷◌, ◌++◌, Option, Some, None, Ok, Err, pos, codes}
 use Rattle.ptb_text.specs.Lines.{input_lines}

@@ -1,4 +1,5 @@
 -- This file has worked rows of runs and of their reports.
+-- Main definition: `TreeRows`.
 --     TreeRows        rows of the runs of a program
 --     ReportRows     rows of their reports
 use Rattle.std.specs.Prelude.{◌≡◌, ℕ, [], ◌∷◌, ◌++◌, codes, false, true, Some, None, pos}

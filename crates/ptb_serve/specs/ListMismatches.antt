@@ -1,4 +1,5 @@
 -- This file defines why a list of the request fits no run.
+-- Main definition: `IsMismatchOf`.
 --     mismatch_note m                      the note that it accompanies
 --     items_of list                        the items of a list; one that is not named has none
 --     IsMismatchIn game under after m      m says why one of these lists fits no run

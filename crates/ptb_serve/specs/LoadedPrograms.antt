@@ -1,4 +1,5 @@
 -- This file defines how a request is served for a program that was loaded.
+-- Main definition: `IsServedIn`.
 --     IsRunStatus ended result    the status of a run that ended, or the note that says why it did not
 --     ServesProgram mode ..       what is written, and the status or the note
 --     ReadsInput mode ..          what is read of the input

@@ -1,4 +1,5 @@
 -- This file defines the line of a note.
+-- Main definition: `note_line`.
 --     note_line note     the line, except where a program's text is refused: that line ends with the text of the fault
 use Rattle.std.specs.Prelude.{List, ℕ, Option, None, Some, codes}
 use Rattle.ptb_serve.specs.declared.note.Note.{Note}

@@ -1,4 +1,5 @@
 -- This file states what `serve` promises.
+-- Main definition: `Served`.
 --     Served                  what is written, the status and the note
 --     ReadsOnlyWhatIsAsked    what is read of the program's text and of the input
 --     FailsLoudly             a note says what failed, and nothing else is said to have failed

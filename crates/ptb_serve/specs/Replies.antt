@@ -1,4 +1,5 @@
 -- This file defines what the tool answers to a request.
+-- Main definition: `reply_to`.
 --     Reply                    what is written, the status, and what goes to standard error
 --     reply_to request b c     the reply for the program text b and the input c
 use Rattle.std.specs.Prelude.{ℕ, nat_lt, Bool, true, false, ◌&&◌, List, [], length, Option, Some, None, Result, Ok, Err}

@@ -1,4 +1,5 @@
 -- This file states the laws of replies.
+-- Main definition: `ReplyLaws`.
 --     ListsRuns play IsListed reply    the replies to a listing are the reports of these runs, or of the first n of
 --                                      them
 --     RunsBySeed seed play reply       the reply to a run by a seed is that to one plain run, whose answers are drawn

@@ -1,4 +1,5 @@
 -- This file defines how a request is served: its reply is given, or it is broken off and the outcome notes why.
+-- Main definition: `Serves`.
 --     outcome_of result                 the outcome of a status or a note
 --     load_note e                       the note of a program that is not loaded
 --     device_note e                     the note of a device that fails

@@ -1,4 +1,5 @@
 -- This file defines the status that the program exits with where a request isn't served, or not to its end.
+-- Main definition: `note_status`.
 --     note_status note
 use Rattle.std.specs.Prelude.{ℕ}
 use Rattle.ptb_serve.specs.declared.note.Note.{Note}

@@ -1,4 +1,5 @@
 -- This file defines what a cursor shows: a text and a place in it. A place counts the bytes before it.
+-- Main definition: `CursorState`.
 --     CursorState      the text and the place
 --     bytes_left s     how many bytes are after the place
 use Rattle.std.specs.Prelude.{ℕ, ◌-◌, List, length}

@@ -1,5 +1,6 @@
 -- This file defines what a reader gives and a writer takes, where their bytes are known, how many a reader gives, and
 -- how often they have failed. std's words serve for the bytes: `Consumes`, `Appends`, `Keeps`, `IsAtEnd`.
+-- Main definition: `HasFailed`.
 --     CountsFaults old new result        a call's fault is counted, and nothing else is
 --     HasFailed old new                  the device failed between the two counts, or has failed for good
 --     TakesSome old new bytes            a prefix of the bytes was taken

@@ -1,4 +1,5 @@
 -- This file defines blanks and digits, and the numbers that digits write.
+-- Main definition: `digits_value`.
 --     is_blank b, is_digit b      what a byte is
 --     digits_value digits         the number that digits write
 --     number_limit                the greatest number that a text can write

@@ -1,4 +1,5 @@
 -- This file defines what a program line that was taken apart says of the line, for every program and memory.
+-- Main definition: `Enters`.
 --     EntersNothing line          no program changes
 --     IsRefused line fault        each program refuses it
 --     IsNumbered line n text      it stores the text under the number, or deletes the statement where the text is empty

@@ -1,4 +1,5 @@
 -- This file states what holds of all that is found at a place: where it ends, and what the next byte says about it.
+-- Main definition: `FindingLaws`.
 --     LiesAhead t i j          j is a place that something found at i may end at
 --     IsNextToken t i next      what the next byte says about each thing that may be found at i
 --     FindingLaws              both hold of all that is found

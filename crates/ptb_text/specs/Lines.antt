@@ -1,4 +1,5 @@
 -- This file defines the lines of a byte text, as program lines and as input lines.
+-- Main definitions: `program_lines` and `input_lines`.
 --     lines b              its pieces, cut at bytes 10, each without one byte 13 at its end
 --     program_lines b      the same, with each tab as a space
 --     input_lines b        the same, cleaned

@@ -1,4 +1,5 @@
 -- This file defines where a number is, or would be, among statements that rise by their numbers.
+-- Main definition: `statement_at`.
 --     statement_at p i               the number and the text of the statement at place i
 --     StatementLaws                  what the number of a statement says about its place
 use Rattle.std.specs.Prelude.{◌≡◌, ℕ, ◌+◌, ◌<◌, ◌≤◌, IsTrue, List, [], length, Option, Some, ℤ, pos}

@@ -1,4 +1,5 @@
 -- This file defines what the fields of a program show, and what they keep.
+-- Main definition: `stored_program`.
 --     text_in pool s               the text of a statement: a part of the pool
 --     stored_program p             the texts of the statements under their numbers, and the memory
 --     lengths ss                   how long the texts of statements are together

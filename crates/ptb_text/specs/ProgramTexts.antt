@@ -1,4 +1,5 @@
 -- This file defines what a program text gives when it is loaded, by the bytes of the reader where they are known.
+-- Main definition: `Loads`.
 --     GivesProgram memory text p    entering the lines of the text gives this map
 --     IsLoaded memory text p        the text isn't too long, too
 --     IsRefusedAt memory text e     the text isn't too long, and e is its first refusal with the source line

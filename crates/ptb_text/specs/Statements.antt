@@ -1,5 +1,6 @@
 -- This file defines a program, the texts of its statements under their numbers, and how lines are entered into it.
 -- The map is the list of its pairs in rising order of the numbers, so equal maps are equal lists.
+-- Main definition: `StoredProgram`.
 --     text_at p n                                    what the map has at number n
 --     first_number p, number_after p n               the least number; the least number above n
 --     with_text p n text, without_number p n         the map with another text at n; with none

@@ -1,4 +1,5 @@
 -- This file defines what contracts see of a reader and of a writer over a call.
+-- Main definition: `WritesText`.
 --     Reads R, reads_of ..        what was read: the reader before and after, its bytes, and its counts
 --     Writes, writes_of ..        what was written: the bytes that the writer has, and its count
 --     WritesText out text result  the text was written, or a prefix of it where the writer failed

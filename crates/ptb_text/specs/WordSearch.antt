@@ -1,4 +1,5 @@
 -- This file says what the private functions that look for a word promise. No public contract cites it.
+-- Main definition: `FindsWord`.
 --     FindsWord ws t place found     found is the first of the words ws at this place
 use Rattle.std.specs.Prelude.{◌≡◌, ℕ, ◌<◌, ◌≤◌, List, length, Option, option_map, IfSome}
 use Rattle.ptb_text.specs.declared.word.Word.{Word}

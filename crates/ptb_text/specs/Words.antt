@@ -1,5 +1,6 @@
 -- This file defines what is at a place of a text. A place counts the bytes before it.
 -- Blanks before and after are passed, and nothing else is taken.
+-- Main definition: `word_at`.
 --     past_blanks t i              where the blanks at i end
 --     next_byte_at t i             the byte that is there
 --     is_over t i                  whether only blanks follow from i on
