@@ -2,8 +2,8 @@
 # Runs the built program over some 60 requests, again and again. Each time one of its calls to the system is refused:
 #
 # - An allocation is refused, or it and all that follow: status 71 with its note, and a prefix of the reply is written. The run
-#   may be complete if one allocation alone is refused, because room for the arguments is asked for twice, and because a
-#   listing continues without the copies of its machine that are refused room.
+#   may be complete if one allocation alone is refused, because room for the arguments, and for each number in a table of
+#   chances, is asked for twice, and because a listing continues without the copies of its machine that are refused room.
 # - A file can't be opened for lack of memory: status 71, and nothing is written.
 # - A read or a write moves one byte of several: nothing changes.
 # - A read fails: status 66, and nothing is written, or a prefix of what the run shows if the run had asked for the line.

@@ -24,12 +24,13 @@ KINDS = {
     "fail": "reads and writes failed",
 }
 MOST_CALLS = 5000
-# Room for the arguments is requested twice: for all of them, and if that is refused for fewer.
+# Where a vector gets the items of an iterator, room is requested twice: for all of them, and if that is refused for fewer.
+# The arguments are such items, and so are the digits of each of the four numbers in a row of a table of chances.
 MOST_SPARED = 1
+MOST_SPARED_IN_A_ROW = 4
 # A listing keeps at most 64 copies of its machine, each in two pieces of memory, and continues without one that is
-# refused. So does a table of chances, which is added up from the runs of a listing.
+# refused.
 MOST_SPARED_COPIES = 128
-WITH_COPIES = {"--all", "--chances"}
 SECONDS_OF_A_RUN = 60
 OUT_OF_MEMORY = noted(71, "out of memory")
 DEVICE_FAILED = "Input/output error (os error 5)"
@@ -76,8 +77,9 @@ def swept(task):
 
 def most_spared(row, kind):
     """How many of a row's runs may be complete although an allocation was refused, or all from one on."""
-    copies = MOST_SPARED_COPIES if WITH_COPIES & set(row.words.split()) else 0
-    return copies + (MOST_SPARED if kind == "refuse" else 0)
+    copies = MOST_SPARED_COPIES if "--all" in row.words.split() else 0
+    vectors = MOST_SPARED + MOST_SPARED_IN_A_ROW * row.due.output.count(b"CHANCE ")
+    return copies + (vectors if kind == "refuse" else 0)
 
 
 def row_with_text(row, unstruck):
