@@ -51,7 +51,7 @@ LOOKS_LIKE_COMMAND = re.compile(r"    (\./|rt |tests/|tools/|ptb-|cd |cat |diff 
 OPTIONAL = ["parallel"]
 # What is tried elsewhere: the first in a copy of the repository, by tests/installing.sh; the second has this script as a part.
 TRIED_ELSEWHERE = {"./install ~/.local", "RT_JOBS=4 rt ci && tests/all.sh"}
-WORDS_OF_ANTT = {"record"}
+WORDS_OF_ANTT = {"abbrev", "record", "unfoldable"}
 NAMED_FILE = re.compile(r"`((?:bench|docs|examples|tests|tools)/[a-z0-9_.-]*[a-z0-9])[ `]")
 PASSED_ON = re.compile(r"^pub use .*", re.M)
 SEED = re.compile(r"ptb: seed ([0-9]+)")
