@@ -1,5 +1,6 @@
 -- This file defines the state of a run.
 -- Main definition: `State`.
+--     State                            the place, what is stored and open, the lines left, what was shown, the steps
 --     first_state p input choose       where a run begins
 --     next_command p place             the command that is next at a place, with its own place
 use Rattle.std.specs.Prelude.{ℕ, ◌+◌, if◌then◌else◌, List, [], length, Option, Some, None, is_some, unwrap_or}

@@ -1,5 +1,6 @@
 -- This file defines what a program can store: the variables A to Z and the array @.
 -- Main definition: `Cells`.
+--     Cells                                              the values of the variables and the elements, and SIZE
 --     value_at c letter, with_value c letter v           the value of a variable
 --     index_of size i                                    the index i of the array, if there is such an element
 --     element_of c i, with_element c i v                 the element there
