@@ -258,15 +258,22 @@ module _ (laws : RunLaws) (p : StoredProgram) (rules : Rules) where
     never_out opens is = let w : Comes (Ok (Some endings.BadAnswer)) = comes (Ok (Some endings.BadAnswer)) is in
         turn_out S m new c l s t given left rest most few u w.0 w.1 opens
 
-    pub never_unread : r ≡ Err faults.Read → ⊥
+    never_unread : r ≡ Err faults.Read → ⊥
     never_unread is = let w : Comes (Err faults.Read) = comes (Err faults.Read) is in
         elim w.broken.0.by [ inl x ↦ x | inr x ↦ x ]
 
-    pub never_unwritten : r ≡ Err faults.Write → ⊥
+    never_unwritten : r ≡ Err faults.Write → ⊥
     never_unwritten is =
         let w : Comes (Err faults.Write) = comes (Err faults.Write) is in
         let none : w.screen.failures ≡ 0 = w.comes.exchanges.unfailed in
         elim w.broken.0 [ inl x ↦ absurd (omega (arith, none, x)) | inr x ↦ absurd (omega (arith, none, x)) ]
+
+    -- bytes and lines are in memory
+    pub only_memory : (r ≡ Err faults.Spent → ⊥) → (f : RunFault) → r ≡ Err f → f ≡ faults.Memory
+    only_memory unspent faults.Memory is = refl
+    only_memory unspent faults.Read is = absurd (never_unread is)
+    only_memory unspent faults.Write is = absurd (never_unwritten is)
+    only_memory unspent faults.Spent is = absurd (unspent is)
 
 -- where a list can give no line, none is left
 pub none_follow : (s : LineList) → length s.lines - s.taken ≡ 0 → drop s.taken s.lines ≡ []

@@ -7,7 +7,7 @@ ghost use Rattle.ptb_machine.specs.Play.{run_from};
 ghost use Rattle.ptb_chances.specs.StagePlays.{played_of, PlaysTo, IsStageAt};
 
 use crate::plan_chooser::PlanChooser;
-use ptb_machine::{Ending, Lines, Machine, Player, Rules, RunFault, TextScreen, run_laws};
+use ptb_machine::{Ending, Lines, Machine, Player, Rules, TextScreen, memory_refusal, run_laws};
 use std::alloc::AllocError;
 
 /// The result of a run that is played with the answers of a plan.
@@ -86,11 +86,7 @@ pub(crate) fn play_plan(
         ) {
             Ok(None) => {}
             Ok(Some(ending)) => return Ok(ended(ending, plan.refused_bound())),
-            Err(RunFault::Memory) => return Err(AllocError),
-            // Bytes and lines are in memory, and the run isn't over.
-            Err(RunFault::Read) => unreachable!(),
-            Err(RunFault::Write) => unreachable!(),
-            Err(RunFault::Spent) => unreachable!(),
+            Err(fault) => return Err(memory_refusal(fault)),
         }
         if plan.is_used_up() {
             return Ok(Played::Goes);

@@ -4,7 +4,6 @@ ghost use Rattle.std.specs.Prelude.{◌≡◌};
 ghost use Rattle.ptb_explore.specs.Listing.{fault_after};
 
 use crate::mismatch::Mismatch;
-use ptb_machine::RunFault;
 use ptb_text::DeviceFault;
 use std::alloc::AllocError;
 use thiserror::Error;
@@ -33,16 +32,6 @@ impl ExploreFault {
                 ExploreFault::Write(written)
             }
         }
-    }
-}
-
-/// The refusal of memory that ended a run whose bytes and lines are in memory.
-pub(crate) fn memory_refusal(fault: RunFault) -> AllocError
-    requires { fault ≡ RunFault.Memory }
-{
-    match fault {
-        RunFault::Memory => AllocError,
-        RunFault::Read | RunFault::Write | RunFault::Spent => unreachable!(),
     }
 }
 

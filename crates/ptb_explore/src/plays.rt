@@ -5,9 +5,8 @@ ghost use Rattle.ptb_explore.specs.Prelude.{play, AreCopies, more_played, play_l
 ghost use Rattle.ptb_explore.specs.Prelude.{CanPlayOn, PlayEnds, recorder_choices, recorded};
 
 use crate::copies::RunProgress;
-use crate::fault::memory_refusal;
 use crate::runner::Runner;
-use ptb_machine::{Ending, Lines, Machine, TextScreen, run_laws};
+use ptb_machine::{Ending, Lines, Machine, TextScreen, memory_refusal, run_laws};
 use std::alloc::AllocError;
 
 impl<'a> Runner<'a> {

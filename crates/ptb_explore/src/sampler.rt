@@ -6,11 +6,13 @@ ghost use Rattle.ptb_explore.specs.Prelude.{IsAtFirst, play, most_answers, Fails
 ghost use Rattle.ptb_explore.specs.Prelude.{FailsAfterSome, FailsOnlyAfterSome, report, PlaysDrawn, SampleLaws};
 ghost use Rattle.ptb_explore.specs.Prelude.{WritesRun, WritesSample};
 
-use crate::fault::{ExploreFault, memory_refusal};
+use crate::fault::ExploreFault;
 use crate::report_text::Parts;
 use crate::report_writer::ReportWriter;
 use ptb_answers::{Form, Seeded};
-use ptb_machine::{Ending, Line, Lines, Machine, Player, Rules, TextScreen, run_laws, word};
+use ptb_machine::{
+    Ending, Line, Lines, Machine, Player, Rules, TextScreen, memory_refusal, run_laws, word,
+};
 use ptb_text::{DeviceFault, Program, Write};
 use std::alloc::{AllocError, Global};
 

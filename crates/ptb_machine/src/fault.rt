@@ -24,6 +24,17 @@ pub enum RunFault {
     Spent,
 }
 
+/// The refusal of memory that ended a run. For runs whose bytes and lines are in memory: nothing else
+/// ends them with a fault.
+pub fn memory_refusal(fault: RunFault) -> AllocError
+    requires { fault ≡ RunFault.Memory }
+{
+    match fault {
+        RunFault::Memory => AllocError,
+        RunFault::Read | RunFault::Write | RunFault::Spent => unreachable!(),
+    }
+}
+
 impl From<AllocError> for RunFault {
     ghost from_gives = { λ _ fault. fault ≡ RunMemory };
 

@@ -13,7 +13,8 @@
 //! what is read of its input, and which fault it was), on `run_plain_to_end` and
 //! `run_seeded_to_end` (the same, and the line at which a limit stopped the run), on `seeded_laws`
 //! (what a seed draws), on `SavedMachine` (where a machine is, in little memory, to which it can be
-//! restored), on `run_laws` (answers are taken one by one, a limited number of them), and on what it
+//! restored), on `run_laws` (answers are taken one by one, a limited number of them), on
+//! `memory_refusal` (the one fault of a run whose bytes and lines are in memory), and on what it
 //! re-exports of the crates below.
 #![tactic(auto)]
 
@@ -35,7 +36,7 @@ mod stop_result;
 
 pub use complete_run::{run, run_to_end};
 pub use ending_word::word;
-pub use fault::RunFault;
+pub use fault::{RunFault, memory_refusal};
 pub use fault_report::report;
 pub use laws::{effect_laws, ending_laws, run_laws, seeded_laws};
 pub use machine::Machine;

@@ -1,13 +1,14 @@
 -- This file answers that a plan is played step by step, and what comes of it.
-use Rattle.std.proofs.Common.{◌≡◌, take, drop, length, refl, rules, sym, ap, ◌∙◌, arith, true, Ok}
-use Rattle.std.proofs.Common.{Err, Some, None, FitsSigned, w16, to_z-of_z}
+use Rattle.std.proofs.Common.{◌≡◌, take, drop, length, refl, rules, sym, ap, ◌∙◌, arith, false, true, Ok}
+use Rattle.std.proofs.Common.{Some, None, FitsSigned, w16, to_z-of_z}
+use Rattle.std.proofs.lemmas.Bool.{false≢true}
 use Rattle.ptb_answers.specs.Outcome.{is_open}
 use Rattle.ptb_command.specs.State.{State}
 use Rattle.ptb_machine.specs.Play.{run_from}
 use Rattle.ptb_chances.specs.PlanChoosers.{PlanAnswers, plan_choices}
 use Rattle.ptb_chances.specs.StagePlays.{Came}
-use Rattle.ptb_chances.proofs.PlaySteps.{advanced, came_by, came_first, none_follow, never_out, never_unread}
-use Rattle.ptb_chances.proofs.PlaySteps.{never_unwritten, plays_by, step_came, step_plays}
+use Rattle.ptb_chances.proofs.PlaySteps.{advanced, came_by, came_first, none_follow, never_out, only_memory}
+use Rattle.ptb_chances.proofs.PlaySteps.{plays_by, step_came, step_plays}
 use Rattle.ptb_chances.proofs.PlaySteps.{step_plan, taken_within}
 use Rattle.ptb_chances.proofs.PickedAnswers.{whole}
 use Rattle.ptb_chances.proofs.plays.play_plan.Goals as goal
@@ -143,20 +144,13 @@ returns-then-is_used_up-clause-plays c = (
       (none_follow c.step.new.source) turn.steps),
 )
 
-pub unreachable-requires : goal.unreachable-requires
-unreachable-requires c =
+pub memory_refusal-requires : goal.memory_refusal-requires
+memory_refusal-requires c =
     let turn = c.step.ensures.turn in
-    let u = advances (goal.at.unreachable-requires c).After-advance c.requires.opens.0
-    (c.commands.invariant.came c.requires.opens.0 c.requires.opens.1) in
-    never_unread c.run_laws.ensures c.args.player.now c.args.rules c.requires.opens.0 _ _
+    let o = c.requires.opens in
+    let u = advances (goal.at.memory_refusal-requires c).After-advance o.0 (c.commands.invariant.came o.0 o.1) in
+    let going : c.advance.new.machine.spent ≡ false = c.advance.ensures.spent ∙ c.commands.invariant.unspent in
+    only_memory c.run_laws.ensures c.args.player.now c.args.rules o.0 _ _
     (plan_choices c.commands.plan) c.step.new.chooser _ _ turn.given _ _ _ _ _ u turn.gives.first
-    (none_follow c.step.new.source) turn.steps (c.in-Err-Read.is ∙ ap Err c.in-Err-Read.field-0-is)
-
-pub unreachable-requires-in-Err-Write : goal.unreachable-requires-in-Err-Write
-unreachable-requires-in-Err-Write c =
-    let turn = c.step.ensures.turn in
-    let u = advances (goal.at.unreachable-requires-in-Err-Write c).After-advance c.requires.opens.0
-    (c.commands.invariant.came c.requires.opens.0 c.requires.opens.1) in
-    never_unwritten c.run_laws.ensures c.args.player.now c.args.rules c.requires.opens.0 _ _
-    (plan_choices c.commands.plan) c.step.new.chooser _ _ turn.given _ _ _ _ _ u turn.gives.first
-    (none_follow c.step.new.source) turn.steps (c.in-Err-Write.is ∙ ap Err c.in-Err-Write.field-0-is)
+    (none_follow c.step.new.source) turn.steps (λ over. false≢true (sym going ∙ c.step.ensures.spent.0 over))
+    c.in-Err.fault c.in-Err.is
