@@ -7,7 +7,7 @@ use Rattle.ptb_check.specs.Laws.{end_state, CheckLaws, CodeMistakeLaws}
 use Rattle.ptb_check.proofs.MistakeCodes.{code_is_mistake}
 use Rattle.ptb_check.proofs.Endings.{play_next}
 use Rattle.ptb_check.proofs.Parts.{parts_tell}
-use Rattle.ptb_check.proofs.ReportedMistakes.{command_told, next_is_there}
+use Rattle.ptb_check.proofs.ReportedMistakes.{command_told, jump_told, next_is_there}
 
 pub code_mistake_laws : SpellingLaws → CommandLaws → CodeMistakeLaws
 code_mistake_laws spelling laws = record {
@@ -17,6 +17,7 @@ code_mistake_laws spelling laws = record {
 pub check_laws : SpellingLaws → CommandLaws → EffectLaws → CheckLaws
 check_laws spelling laws effects = record {
   commands = command_told spelling laws;
+  jumps = jump_told;
   runs = λ p input rules a rest f kind e h.
       let at = play_next effects p input rules a rest f kind e h in record {
         place = at.place;

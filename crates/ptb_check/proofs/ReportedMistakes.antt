@@ -1,28 +1,33 @@
--- This file proves that each command of a program is well formed, or its mistake is reported.
--- Main lemma: `command_told`.
-use Rattle.std.proofs.Common.{◌≡◌, ◌∙◌, ℕ, zero, suc, Bool, true, false, cond, List, [], ◌∷◌, ◌++◌}
+-- This file proves that each command of a program has no mistake, or its mistake is reported.
+-- Main lemmas: `command_told` and `jump_told`.
+use Rattle.std.proofs.Common.{◌≡◌, ◌∙◌, ◌⊎◌, ℕ, zero, suc, Bool, true, false, cond, List, [], ◌∷◌, ◌++◌}
 use Rattle.std.proofs.Common.{Option, Some, None, IsSome, sym, ap, subst, refl, append_assoc, inl}
 use Rattle.std.proofs.Common.{inr, slice_get}
-use Rattle.std.specs.Prelude.{flat_map, unwrap_or}
+use Rattle.std.specs.Prelude.{ℤ, flat_map, unwrap_or}
 use Rattle.std.specs.Ordering.{nat_cmp, eq_by_cmp}
 use Rattle.std.specs.Cmp.{unsigned_tied}
 use Rattle.std.proofs.lemmas.Bool.{eqb-true}
 use Rattle.std.proofs.lemmas.Option.{same_Some, none-some}
 use Rattle.ptb_text.specs.declared.word.Table.TheVariants.{Commands}
 use Rattle.ptb_text.specs.declared.word.Word.{Word}
-use Rattle.ptb_text.specs.declared.word.Word.TheVariants.{LetKw}
+use Rattle.ptb_text.specs.declared.word.Word.TheVariants.{GotoKw, GosubKw, LetKw}
 use Rattle.ptb_text.specs.Words.{past_blanks, word_at}
 use Rattle.ptb_text.specs.Statements.{Statements, text_at}
 use Rattle.ptb_expr.specs.declared.fault.Fault.{Fault}
+use Rattle.ptb_expr.specs.declared.fault.FaultKind.TheVariants.{How}
 use Rattle.ptb_expr.specs.Reading.{Reading, Whole, Malformed, item_of}
 use Rattle.ptb_expr.specs.Spells.{SpellingLaws}
-use Rattle.ptb_command.specs.Commands.{Part, Command, command_by, command_at, commands, commands_from, command_round}
+use Rattle.ptb_expr.specs.Tree.{Num}
+use Rattle.ptb_expr.specs.Value.{fault}
+use Rattle.ptb_command.specs.Commands.{Part, Operand, Command, command_by, command_at, commands, commands_from}
+use Rattle.ptb_command.specs.Commands.{command_round}
 use Rattle.ptb_command.specs.Items.{items, items_within}
 use Rattle.ptb_command.specs.CommandLaws.{CommandLaws}
-use Rattle.ptb_command.specs.State.{Place, command_there, text_of, next_command, command_or_next}
+use Rattle.ptb_command.specs.State.{Place, command_there, statement, text_of, next_command, command_or_next}
 use Rattle.ptb_command.specs.State.{first_command, placed_at, place_after}
-use Rattle.ptb_check.specs.Laws.{IsAmong, IsMistakeOf, IsReported}
-use Rattle.ptb_check.specs.Mistakes.{Mistake, parts_fault, command_mistake, mistake_in, statement_mistakes, mistakes}
+use Rattle.ptb_check.specs.Laws.{IsAmong, IsJumpNowhere, IsMistakeOf, IsReported}
+use Rattle.ptb_check.specs.Mistakes.{Mistake, parts_fault, jump_number, unless_there, jump_mistake, parts_mistake}
+use Rattle.ptb_check.specs.Mistakes.{command_mistake, mistake_in, statement_mistakes, mistakes}
 use Rattle.ptb_check.proofs.Parts.{parts_tell}
 use Rattle.ptb_check.proofs.Readings.{Tells}
 
@@ -103,6 +108,21 @@ in_all p q c f statement there is =
     (among_all (λ d. mistake_in (q.number, text_of p q.number) (command_mistake p d)) (commands (text_of p q.number)) c
     (mistake_at p q f) there (alone p q c f is))
 
+-- the fault of a jump to a written number that no statement has
+nowhere_mistakes : (p : Statements) (kind : Word) (n : ℤ) (e : ℕ) → (kind ≡ GotoKw) ⊎ (kind ≡ GosubKw)
+    → statement p n ≡ None → parts_mistake p kind (Whole (Operand (Num n) ∷ []) e) ≡ Some (fault How e)
+nowhere_mistakes p kind n e (inl k) h =
+    ap (λ w. jump_mistake p e (jump_number w (Operand (Num n) ∷ []))) k ∙ ap (unless_there e) h
+nowhere_mistakes p kind n e (inr k) h =
+    ap (λ w. jump_mistake p e (jump_number w (Operand (Num n) ∷ []))) k ∙ ap (unless_there e) h
+
+pub jump_told : (p : Statements) (q : Place) (c : Command) → command_there p q ≡ Some c → (jump : IsJumpNowhere p c)
+    → IsAmong (mistakes p) (mistake_at p q (fault How jump.end))
+jump_told p q c e jump =
+    in_all p q c (fault How jump.end) (found p q.number (text_of p q.number) (statement_there p q c e))
+    (at_index (commands (text_of p q.number)) q.index c e)
+    (ap (parts_mistake p c.kind) jump.whole ∙ nowhere_mistakes p c.kind jump.number jump.end jump.kind jump.nowhere)
+
 module _ (spelling : SpellingLaws) (laws : CommandLaws) where
   command_tells : (t : List ℕ) (b : ℕ) → Tells parts_fault (command_at t b).parts
   unfolding command_at
@@ -134,8 +154,14 @@ module _ (spelling : SpellingLaws) (laws : CommandLaws) where
       by_fault parts (Some f) d h s = inr (told f (ap (λ r. command_mistake p (record c { parts = r })) d ∙ h))
       by_fault parts None d h s = cc s
 
+      by_mistake : (parts : List Part) (j : ℕ) (o : Option Fault) → c.parts ≡ Whole parts j → command_mistake p c ≡ o
+          → IsReported p q c
+      by_mistake parts j (Some f) d h = inr (told f h)
+      by_mistake parts j None d h =
+          inl (record { end = j; whole = d ∙ ap (λ x. Whole x j) (sym (ap item_of d)); clean = h })
+
       by_parts : (r : Reading (List Part)) → c.parts ≡ r → Tells parts_fault r → IsReported p q c
-      by_parts (Whole parts j) d h = inl (record { end = j; whole = d ∙ ap (λ x. Whole x j) (sym (ap item_of d)) })
+      by_parts (Whole parts j) d h = by_mistake parts j (command_mistake p c) d refl
       by_parts (Malformed parts) d h = by_fault parts (parts_fault parts) d refl h
 
 -- ---- the next command

@@ -14,8 +14,8 @@ pub(crate) fn code_mistake_laws()
     command_laws();
 }
 
-/// The command at which a run ends with a fault is well formed, or its mistake is among those of its
-/// program.
+/// The command at which a run ends with a fault has no mistake in its text, or its mistake is among
+/// those of its program. HOW? is among them for each jump to a written number that no statement has.
 #[tactic(auto, using(crate::proofs::MistakeLaws::check_laws))]
 pub fn check_laws()
     ensures { CheckLaws }

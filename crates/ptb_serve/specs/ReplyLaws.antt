@@ -233,6 +233,6 @@ pub record ReplyLaws : Type 0 where
   -- the reply to a check of a text that is accepted is its mistakes
   pub checked : (r : Request) (b c : List ℕ) (p : Statements) → program_of_text r.memory b ≡ Ok p → r.mode ≡ modes.Check
       → ChecksText p (reply_to r b c)
-  -- and where a run of it ends with WHAT, HOW or SORRY, the command at its place is well formed, or its mistake is
-  -- one of these
+  -- and where a run of it ends with WHAT, HOW or SORRY, the command at its place has no mistake, or its mistake is one
+  -- of these
   pub mistakes : CheckLaws

@@ -14,8 +14,8 @@ use ptb_machine::{run_laws, seeded_laws};
 /// program's lines, or the mistakes in them. Two runs have two different reports. A run by a seed is
 /// the one run whose answers are drawn from the seed. The replies to the shares of the lists that split
 /// the runs are, one after the other, the reports of all runs. The chances of the results of all runs
-/// add up to 1. Where a run ends with a fault, the command at its place is
-/// well formed, or its mistake is among those that a check lists.
+/// add up to 1. Where a run ends with a fault, the command at its place has no mistake in its text, or
+/// its mistake is among those that a check lists.
 #[tactic(auto, using(crate::proofs::ReplyLaws::reply_laws))]
 pub fn reply_laws()
     ensures { ReplyLaws }
