@@ -18,7 +18,7 @@ module _ (f : Ratio) (some : 0 < f.denominator) where
   lower : f.denominator ≡ gcd f.numerator f.denominator * (f.denominator / gcd f.numerator f.denominator)
   lower = sym (mul-div_cancel' (gcd f.numerator f.denominator) ((gcd_is f.numerator f.denominator).1))
 
-  lowest_low : IsLowest (lowest f)
+  pub lowest_low : IsLowest (lowest f)
   lowest_low =
       coprime_quotients f.numerator f.denominator (gcd f.numerator f.denominator)
       (f.numerator / gcd f.numerator f.denominator) (f.denominator / gcd f.numerator f.denominator)

@@ -1,7 +1,8 @@
 -- This file proves that the rows of a table have together what all runs have: their chances add up to 1, and their
 -- numbers of runs to that of all runs.
 -- Main lemma: `table_laws`.
-use Rattle.std.proofs.Common.{◌≡◌, ℕ, ◌+◌, ◌<◌, Bool, true, false, ◌||◌, List, [], ◌∷◌, map, length}
+use Rattle.std.proofs.Common.{◌≡◌, ℕ, zero, suc, ◌+◌, ◌<◌, Bool, true, false, ◌||◌, List, [], ◌∷◌, map, length}
+use Rattle.std.specs.Prelude.{Contains, slice_index_or}
 use Rattle.std.proofs.Common.{refl, ap, sym, subst, ◌∙◌, arith}
 use Rattle.std.specs.List.{AllByRecursion}
 use Rattle.std.specs.List.Sorted.{IsStrictlySortedBy}
@@ -19,10 +20,10 @@ use Rattle.ptb_machine.specs.RunTree.{tree}
 use Rattle.ptb_chances.proofs.ChanceSums.{whole_chance, sum_positive}
 use Rattle.ptb_chances.specs.Accounts.{has_result, rows_with, chance_of_rows, runs_of_rows, ArePositive, account}
 use Rattle.ptb_chances.specs.Order.{result_order_total}
-use Rattle.ptb_chances.specs.TableLaws.{TableLaws}
+use Rattle.ptb_chances.specs.TableLaws.{IsRowOf, ResultsIn, TableLaws}
 use Rattle.ptb_chances.proofs.Accounts.{maybe, chance_is, runs_are, chance_positive}
 use Rattle.ptb_chances.proofs.PositiveAccounts.{all_positive}
-use Rattle.ptb_chances.proofs.LowestTerms.{lowest_equal, lowest_positive}
+use Rattle.ptb_chances.proofs.LowestTerms.{lowest_equal, lowest_low, lowest_positive}
 use Rattle.ptb_chances.proofs.Orders.{result_exact, less_apart, has, has_results, results_rise}
 use Rattle.ptb_chances.proofs.Sums.{nothing, plus_nothing, plus_assoc, plus_turn, plus_positive}
 use Rattle.ptb_chances.proofs.Sums.{equals_plus, equals_then}
@@ -62,6 +63,29 @@ all_there (w ∷ ws) rs sub = (
   sub w.result (ap (λ b. b || has w.result (results_in ws)) (ap is_eq (tied_itself result_order_total w.result))),
   all_there ws rs (λ q h. sub q (or_right (is_eq (result_order q w.result)) (has q (results_in ws)) h)),
 )
+
+-- ---- what a list of results contains
+
+has_contained : (q : RunResult) (ks : List RunResult) → has q ks ≡ true → Contains ks q
+has_contained q [] h = absurd cc
+has_contained q (k ∷ ks) h = by_test (is_eq (result_order q k)) refl h (has_contained q ks)
+  where
+    by_test : (b : Bool) → is_eq (result_order q k) ≡ b → b || has q ks ≡ true → (has q ks ≡ true → Contains ks q)
+        → Contains (k ∷ ks) q
+    by_test true e h later = (0, omega arith, sym (result_exact q k (equal_by_test (result_order q k) e)))
+    by_test false e h later = let c = later h in (suc c.0, omega (arith, c.1), c.2)
+
+contained_has : (q : RunResult) (ks : List RunResult) → Contains ks q → has q ks ≡ true
+contained_has q ks c = at_place ks c.0 c.1 c.2
+  where
+    at_place : (ks : List RunResult) (i : ℕ) → i < length ks → slice_index_or ks i q ≡ q → has q ks ≡ true
+    at_place [] i l e = absurd (omega arith)
+    at_place (k ∷ ks) zero l e =
+        let same : result_order q k ≡ Equal = subst (λ (x : RunResult). result_order q x ≡ Equal) (sym e)
+        (tied_itself result_order_total q) in
+        ap (λ b. b || has q ks) (ap is_eq same)
+    at_place (k ∷ ks) (suc i) l e =
+        or_right (is_eq (result_order q k)) (has q ks) (at_place ks i (omega arith) e)
 
 -- ---- the sum over all rows is that over the results
 
@@ -163,6 +187,23 @@ module _ (play : Answers → Outcome Finish (List ℕ)) where
   results_of_table runs [] = refl
   results_of_table runs (r ∷ rs) = ap (λ qs. r ∷ qs) (results_of_table runs rs)
 
+  -- a run with each result of some runs, and the result of each of them
+  run_with_result : (runs : List Answers) (r : RunResult) (i : ℕ) → i < length (map (λ a. result_of (play a)) runs)
+      → slice_index_or (map (λ a. result_of (play a)) runs) i r ≡ r → ResultsIn play runs r
+  run_with_result [] r i l e = absurd (omega arith)
+  run_with_result (a ∷ runs) r zero l e = (a, (0, omega arith, refl), e)
+  run_with_result (a ∷ runs) r (suc i) l e =
+      let found = run_with_result runs r i (omega arith) e in
+      (found.0, (suc found.1.0, omega (arith, found.1.1), found.1.2), found.2)
+
+  result_of_run : (runs : List Answers) (a : Answers) (i : ℕ) → i < length runs → slice_index_or runs i a ≡ a
+      → Contains (map (λ b. result_of (play b)) runs) (result_of (play a))
+  result_of_run [] a i l e = absurd (omega arith)
+  result_of_run (b ∷ runs) a zero l e = (0, omega arith, ap (λ (c : Answers). result_of (play c)) e)
+  result_of_run (b ∷ runs) a (suc i) l e =
+      let there = result_of_run runs a i (omega arith) e in
+      (suc there.0, omega (arith, there.1), there.2)
+
   -- all results are those of the account
   all_results : (runs : List Answers)
       → AllByRecursion (λ w. has w.result (results (map (λ a. result_of (play a)) runs)) ≡ true) (account play runs)
@@ -200,6 +241,18 @@ module _ (play : Answers → Outcome Finish (List ℕ)) where
         (chance_of_rows (map (row_for runs) rs)) (chance_parts (account play runs) rs)
         (row_chance r) (table_chances rs)
 
+    row_has : (r : RunResult) → IsRowOf play runs (row_for runs r)
+    row_has r = record {
+      lowest = lowest_low (chance_of_all play (runs_with play r runs)) (some r);
+      positive = lowest_positive (chance_of_all play (runs_with play r runs)) (some r);
+      sum = lowest_equal (chance_of_all play (runs_with play r runs)) (some r);
+      count = refl;
+    }
+
+    rows_have : (rs : List RunResult) → AllByRecursion (IsRowOf play runs) (map (row_for runs) rs)
+    rows_have [] = tt
+    rows_have (r ∷ rs) = (row_has r, rows_have rs)
+
     table_positive : (rs : List RunResult) → 0 < (chance_of_rows (map (row_for runs) rs)).denominator
     table_positive [] = omega arith
     table_positive (r ∷ rs) =
@@ -226,8 +279,27 @@ module _ (play : Answers → Outcome Finish (List ℕ)) where
     equal = subst (λ (f : Ratio). Equals (chance_of_rows (table play all)) f) whole
         (table_chances all (all_positive play most reads) keys)
 
+    -- a result is there where a run has it
+    has_row : (r : RunResult) → Contains (map (λ w. w.result) (table play all)) r → ResultsIn play all r
+    has_row r c =
+        let results_are = map (λ a. result_of (play a)) all in
+        let key : Contains keys r = subst (λ (ks : List RunResult). Contains ks r) (results_of_table all keys) c in
+        let there : Contains results_are r =
+        has_contained r results_are (sym (has_results r results_are) ∙ contained_has r keys key) in
+        run_with_result all r there.0 there.1 there.2
+
+    has_run : (r : RunResult) → ResultsIn play all r → Contains (map (λ w. w.result) (table play all)) r
+    has_run r x =
+        let results_are = map (λ a. result_of (play a)) all in
+        let there : Contains results_are r = subst (λ (q : RunResult). Contains results_are q) x.2
+        (result_of_run all x.0 x.1.0 x.1.1 x.1.2) in
+        subst (λ (ks : List RunResult). Contains ks r) (sym (results_of_table all keys))
+        (has_contained r keys (has_results r results_are ∙ contained_has r results_are there))
+
     pub table_has : TableLaws play most
     table_has = record {
+      members = λ r. (has_row r, has_run r);
+      rows = rows_have all (all_positive play most reads) keys;
       rising = subst (IsStrictlySortedBy result_order) (sym (results_of_table all keys)) keys_rise;
       sum = equals_then (chance_of_rows (table play all)) (chance_of_all play all) (record {
         numerator = 1;

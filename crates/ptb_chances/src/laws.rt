@@ -14,8 +14,9 @@ pub fn chance_laws<A, W>()
         → 0 < (chance_of_all play (tree play most)).denominator }
 {}
 
-/// The results of the table of all runs rise. Their chances add up to 1, and their numbers of runs to
-/// the number of all runs.
+/// The results of the table of all runs rise, and are those that a run has. Each has the chance of the
+/// runs with it, in lowest terms, and their number. The chances add up to 1, and the numbers of runs to
+/// that of all runs.
 pub fn table_laws()
     ensures { (play : Answers → Outcome Finish (List ℕ)) (most : ℕ) → IsReader play most
         → TableLaws play most }

@@ -91,7 +91,8 @@ pub record SamplesBySeed (seed : ℕ) (play : Answers → Outcome Finish (List �
 pub record ReportsChances (play : Answers → Outcome Finish (List ℕ)) (most : ℕ) (reply : Reply) : Type 0 where
   -- the table of the tree is written, whose members are the runs, and the status is 0
   pub rows : reply ≡ reply_with (table_text (table play (tree play most)))
-  -- the results rise, their chances add up to 1, and their numbers of runs to that of all runs
+  -- the results rise, and are those of the runs; each has the chance of the runs with it, in lowest terms, and their
+  -- number; the chances add up to 1, and the numbers to that of all runs
   pub laws : TableLaws play most
 
 -- A share of all runs are those that begin with some answers.
