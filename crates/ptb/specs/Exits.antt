@@ -79,13 +79,15 @@ pub record IsRefusedStatus (kind : ErrorKind) (n : ℕ) : Type 0 where
 
 -- ---- what the program does by its arguments
 
-module _ {R : Type 0} (input : Reads R) (out : Writes) where
+-- `NoneOpened` says that no program was opened
+module _ {R : Type 0} (input : Reads R) (out : Writes) (NoneOpened : Type 0) where
   -- the options are a usage error
   pub record IsUsageStatus (options : Options) (n : ℕ) : Type 0 where
     pub fault : UsageFault
     pub refuses : RefusesOptions options fault
     pub status : n ≡ usage_status fault
     pub untouched : IsUntouched input out
+    pub unopened : NoneOpened
 
   -- clap refused the arguments, for one of these faults or for lack of memory
   pub record IsFaultStatus (faults : Kinds) (n : ℕ) : Type 0 where
@@ -93,14 +95,16 @@ module _ {R : Type 0} (input : Reads R) (out : Writes) where
     pub has : (kind ≡ OutOfMemory) ⊎ IsAmong kind faults
     pub status : IsRefusedStatus kind n
     pub untouched : IsUntouched input out
+    pub unopened : NoneOpened
 
   -- the arguments can't be read, by an error of this kind
   pub record IsUnreadStatus (kind : ReadErrorKind) (n : ℕ) : Type 0 where
     pub status : n ≡ unread_status kind
     pub untouched : IsUntouched input out
+    pub unopened : NoneOpened
 
 module _ {P R : Type 0} (opens : Option (List ℕ) → Result P Note → Type 0) (text : P → P
-    → Reads P) (input : Reads R) (out : Writes) where
+    → Reads P) (input : Reads R) (out : Writes) (NoneOpened : Type 0) where
   pub record AnswersRequest (terminals : Terminals) (entries : List Row) (n : ℕ) : Type 0 where
     pub drawn : Option ℕ
     pub request : Request
@@ -110,10 +114,9 @@ module _ {P R : Type 0} (opens : Option (List ℕ) → Result P Note → Type 0)
 
   abbrev pub AnswersOptions : Terminals → List Row → ℕ → Type 0
   AnswersOptions terminals entries n =
-      AnswersRequest terminals entries n ⊎ IsUsageStatus input out (options_of entries) n
+      AnswersRequest terminals entries n ⊎ IsUsageStatus input out NoneOpened (options_of entries) n
 
   -- the options of arguments without a fault are answered, and otherwise it is the status of their fault
   pub record ExitsBy (terminals : Terminals) (words : List Text) (n : ℕ) : Type 0 where
     pub exits : ((fault_of tool words ≡ []) × AnswersOptions terminals (matches_of tool words) n)
-        ⊎ IsFaultStatus input out
-        (fault_of tool words) n
+        ⊎ IsFaultStatus input out NoneOpened (fault_of tool words) n

@@ -18,7 +18,8 @@ use std::rt::Runtime;
 use std::time::{Duration, SystemTime, UNIX_EPOCH};
 
 /// Does what the arguments ask for, and gives the status to exit with. The first argument is the
-/// program's name. Where the arguments could not be read, nothing is read or written.
+/// program's name. Where they make a request, its program is opened once. Where they make none, or
+/// could not be read, no program is opened, and nothing is read or written.
 pub fn run_arguments<
     R: Runtime + AllocGlobal,
     P: Read + Drop,
@@ -28,18 +29,20 @@ pub fn run_arguments<
 >(
     console: &Console<'_, R>,
     words: io::Result<Vec<String>>,
-    programs: &O,
+    programs: &mut O,
     input: &mut I,
     out: &mut W,
 ) -> u8
-    ensures read { IfOk words (λ w. ExitsBy (O.opens programs.now)
+    ensures read { IfOk words (λ w. ExitsBy
+        (λ path opened. O.opens programs.old path opened programs.new)
         (reads_of P.remaining P.given P.failures)
         (reads_of I.remaining I.given I.failures input.old input.new)
-        (writes_of W.contents W.failures out.old out.new)
+        (writes_of W.contents W.failures out.old out.new) (programs.new ≡ programs.old)
         console.now.terminals (map string_bytes w.items) result) }
     ensures unread { IfErr words (λ error. IsUnreadStatus
         (reads_of I.remaining I.given I.failures input.old input.new)
-        (writes_of W.contents W.failures out.old out.new) (error_kind error) result) }
+        (writes_of W.contents W.failures out.old out.new) (programs.new ≡ programs.old)
+        (error_kind error) result) }
 {
     match words {
         Ok(words) => run_words(console, words.as_slice(), programs, input, out),
@@ -56,10 +59,11 @@ fn run_words<
     O: Programs<P>,
     I: Read,
     W: Write + Watch,
->(console: &Console<'_, R>, words: &'a [S], programs: &O, input: &mut I, out: &mut W) -> u8
-    ensures { ExitsBy (O.opens programs.now) (reads_of P.remaining P.given P.failures)
+>(console: &Console<'_, R>, words: &'a [S], programs: &mut O, input: &mut I, out: &mut W) -> u8
+    ensures { ExitsBy (λ path opened. O.opens programs.old path opened programs.new)
+        (reads_of P.remaining P.given P.failures)
         (reads_of I.remaining I.given I.failures input.old input.new)
-        (writes_of W.contents W.failures out.old out.new)
+        (writes_of W.contents W.failures out.old out.new) (programs.new ≡ programs.old)
         console.now.terminals (map S.text words.entry.now) result }
 {
     match parse(console.runtime().alloc(), words) {
@@ -73,15 +77,16 @@ fn run_words<
 fn run_matches<R: Runtime + AllocGlobal, P: Read + Drop, O: Programs<P>, I: Read, W: Write + Watch>(
     console: &Console<'_, R>,
     matches: &ArgMatches<'_>,
-    programs: &O,
+    programs: &mut O,
     input: &mut I,
     out: &mut W,
 ) -> u8
     requires memory { HasMemorySize (options_of (entries_of matches.now)) }
     requires bound { HasBound (options_of (entries_of matches.now)) }
-    ensures { AnswersOptions (O.opens programs.now) (reads_of P.remaining P.given P.failures)
+    ensures { AnswersOptions (λ path opened. O.opens programs.old path opened programs.new)
+        (reads_of P.remaining P.given P.failures)
         (reads_of I.remaining I.given I.failures input.old input.new)
-        (writes_of W.contents W.failures out.old out.new)
+        (writes_of W.contents W.failures out.old out.new) (programs.new ≡ programs.old)
         console.now.terminals (entries_of matches.now) result }
 {
     match task(console, matches) {

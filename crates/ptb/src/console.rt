@@ -167,10 +167,10 @@ pub struct ProgramFiles<'a, R> {
 
 impl<'a, R: Runtime> Programs<ProgramText<'a, R>> for ProgramFiles<'a, R> {
     // Nobody knows what is in a file, and whether it can be opened.
-    ghost opens = { λ files path opened. MayOpen path
+    ghost opens = { λ files path opened later. MayOpen path
         (result_map_both (λ text. watched_inner (device_inner text)) (λ note. note) opened) };
 
-    fn open(&self, path: Option<&str>) -> Result<ProgramText<'a, R>, Note> {
+    fn open(&mut self, path: Option<&str>) -> Result<ProgramText<'a, R>, Note> {
         let source = match path {
             Some(path) => Source::File(opened_file(fs::open(self.rt, path), self.failed)?),
             None => Source::Input(self.rt.reader()),

@@ -43,7 +43,7 @@ fn main(rt: HostRuntime) -> ExitCode {
     ExitCode::from(run_arguments(
         &console,
         words(&rt),
-        &console.programs(),
+        &mut console.programs(),
         &mut console.input(),
         &mut console.output(),
     ))

@@ -27,28 +27,30 @@ pub struct Task<'a> {
 
 /// Where programs are opened.
 pub trait Programs<P> {
-    /// What may come of opening the program at a path.
-    ghost opens: { Self → Option (List ℕ) → Result P NoteValue → Type 0 };
+    /// What may come of opening the program at a path, with the value before it is opened and the
+    /// value after.
+    ghost opens: { Self → Option (List ℕ) → Result P NoteValue → Self → Type 0 };
 
     /// Opens the program's file at this path, or standard input where there is none.
     ///
     /// # Errors
     ///
     /// The note of a file that can't be opened.
-    fn open(&self, path: Option<&str>) -> Result<P, Note>
-        ensures { opens self.now (option_copied path.entry) result };
+    fn open(&mut self, path: Option<&str>) -> Result<P, Note>
+        ensures { opens self.old (option_copied path.entry) result self.new };
 }
 
 /// Serves a task, and gives the status to exit with. The input has no lines where standard input is
-/// the program.
+/// the program. The program is opened once.
 pub fn serve_task<
     R: Runtime + AllocGlobal,
     P: Read + Drop,
     O: Programs<P>,
     I: Read,
     W: Write + Watch,
->(console: &Console<'_, R>, task: &Task<'_>, programs: &O, input: &mut I, out: &mut W) -> u8
-    ensures { ServesTask (O.opens programs.now) (reads_of P.remaining P.given P.failures)
+>(console: &Console<'_, R>, task: &Task<'_>, programs: &mut O, input: &mut I, out: &mut W) -> u8
+    ensures { ServesTask (λ path opened. O.opens programs.old path opened programs.new)
+        (reads_of P.remaining P.given P.failures)
         (option_copied task.now.path) task.now.request
         (reads_of I.remaining I.given I.failures input.old input.new)
         (writes_of W.contents W.failures out.old out.new) result }
