@@ -55,4 +55,5 @@ mod Loops
 mod WorkedParts
 mod LineAnswers
 mod ShownParts
+mod ShownCommands
 mod TakenItems
