@@ -50,8 +50,8 @@ item_stored : (g : given.Over) (c : goal.After-show_gathered g)
       text = c.line_at.result.1;
       operations = c.args.context.now.operations;
       steps = c.args.context.now.steps;
-    }) c.args.self.now.store c.take_at_hand.new.store c.args.io.now c.take_at_hand.new.io [] c.take_at_hand.new.output.pending
-    first_width (Ok c.in-Some.item.next)
+    }) c.args.self.now.store c.take_at_hand.new.store c.args.io.now c.take_at_hand.new.io []
+    c.take_at_hand.new.output.pending first_width (Ok c.in-Some.item.next)
 item_stored g c =
     let item = c.in-Some.item in
     item_taken g.C.Chooser g.S.Screen g.L.LineSource g.met.L.LineSource.gives_none g.met.L.LineSource.gives_more
