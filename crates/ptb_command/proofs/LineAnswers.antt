@@ -1,6 +1,6 @@
 -- This file proves the result of asking for a line, from what is known of each step.
 -- Main lemmas: `answering_done` and `answering_fails`.
-use Rattle.std.proofs.Common.{◌≡◌, ◌≤◌, ◌+◌, ℕ, Bool, true, false, List, [], ◌∷◌, ◌++◌, Option}
+use Rattle.std.proofs.Common.{◌≡◌, ◌≤◌, ℕ, Bool, true, false, List, [], Option}
 use Rattle.std.proofs.Common.{Some, None, Result, Ok, Err, ℤ, IfErr, IfOk, IfNone, subst, sym, Bor}
 use Rattle.std.specs.Prelude.{if◌then◌else◌}
 use Rattle.std.specs.Result.{IsErrAnd}
@@ -21,8 +21,8 @@ use Rattle.ptb_command.specs.Traces.{Trace, trace, with_pending, still_pending, 
 use Rattle.ptb_command.proofs.Actions.{refines_part_on, stops_unrefused}
 use Rattle.ptb_command.proofs.PendingBytes.{stops_none}
 use Rattle.ptb_command.proofs.Dispatch.{answers_refused}
-use Rattle.ptb_command.proofs.InputItems.{with_most, with_given, fewer_left, flush_stops, line_left}
-use Rattle.ptb_command.proofs.InputItems.{line_asked, take_ask_stops, take_unread, take_dry}
+use Rattle.ptb_command.proofs.InputItems.{with_most, fewer_left, flush_stops, line_left}
+use Rattle.ptb_command.proofs.InputItems.{take_ask_stops, take_unread, take_dry}
 use Rattle.ptb_command.proofs.InputItems.{take_instead}
 use Rattle.ptb_command.proofs.MissedLines.{none_more}
 use Rattle.ptb_command.proofs.PartRefinement.{refines_part_then}
@@ -126,48 +126,35 @@ module _ (said : List ℕ) (x : Tree) (prompt : List ℕ) {i o : Trace}
           (answers_refused answers unread lines)
           (with_most most m) n (answer_instead bound at) (λ u. goes_on tt) r h)
 
-    -- the source gives a line, and has then given these
-    module _ (l : List ℕ) (given : List (List ℕ)) (fewer : most + 1 ≤ m.devices.most)
-        (is : given ≡ m.devices.given ++ l ∷ []) where
-      -- what is left to do then
-      abbrev left : Action (Unit {0})
-      left = line_left said x prompt at l
+-- A line was given, so this is left to do of the item.
+module _ (said : List ℕ) (x : Tree) (prompt : List ℕ) (at : Target) (l : List ℕ) {i k : Trace}
+    (given : RefinesPart i k (item_action said x prompt) (line_left said x prompt at l)) where
+  -- a device fails, or a question is refused, before the item is done
+  pub answering_fails : {X : Type 0} (answers : Pause → ℤ → Type 0) (unread : DeviceFault → Type 0)
+      (lines : Option (List (List ℕ))) (n : Trace) (ok : X → Action (Unit {0})) (r : Result X CommandStop)
+      (e : CommandStop)
+      → IsErrAnd r (λ y. y ≡ e)
+      → Stops (refused_answers answers)
+      (RefinesPartTo k (with_pending (still_pending n.pending e) n) (line_left said x prompt at l)) n.devices e
+      → Comes (refused_by answers unread lines) i n (item_action said x prompt) ok r
+  answering_fails answers unread lines n ok r e is h =
+      let end = with_pending (still_pending n.pending e) n in
+      comes_err (refused_by answers unread lines) i n (item_action said x prompt) ok r e is
+      (stops_after (refused_by answers unread lines) end given e
+      (stops_more (refused_answers answers) (refused_by answers unread lines) (answers_refused answers unread lines)
+      k end (line_left said x prompt at l) e h))
 
-      -- it has come there
-      asked_line : RefinesPart i (with_given given (with_most most m)) (item_action said x prompt) left
-      asked_line = line_asked said x prompt most at l given was comes fewer is
+  -- the line has a value in front, or the item is to be done again
+  pub answering_done : (n : Trace) (stored : Bool) → stored ≡ true
+      → RefinesPart k n (line_left said x prompt at l) (if stored then goes_on tt else item_action said x prompt)
+      → RefinesPart i n (item_action said x prompt) (goes_on tt)
+  answering_done n stored is h =
+      refines_part_then given (subst (λ (b : Bool). RefinesPart k n (line_left said x prompt at l)
+      (if b then goes_on tt else item_action said x prompt)) is h)
 
-      -- a device fails, or a question is refused, before the item is done
-      pub answering_fails : {X : Type 0} (answers : Pause → ℤ → Type 0) (unread : DeviceFault → Type 0)
-          (lines : Option (List (List ℕ))) (n : Trace) (ok : X → Action (Unit {0})) (r : Result X CommandStop)
-          (e : CommandStop)
-          → IsErrAnd r (λ y. y ≡ e)
-          → Stops (refused_answers answers)
-          (RefinesPartTo (with_given given (with_most most m)) (with_pending (still_pending n.pending e) n) left)
-          n.devices e
-          → Comes (refused_by answers unread lines) i n (item_action said x prompt) ok r
-      answering_fails answers unread lines n ok r e is h =
-          let end = with_pending (still_pending n.pending e) n in
-          comes_err (refused_by answers unread lines) i n (item_action said x prompt) ok r e is
-          (stops_after (refused_by answers unread lines) end asked_line e
-          (stops_more (refused_answers answers) (refused_by answers unread lines) (answers_refused answers unread lines)
-          (with_given given (with_most most m)) end left e h))
-
-      -- the line has a value in front, or the item is to be done again
-      pub answering_done : (n : Trace) (stored : Bool) → stored ≡ true
-          → RefinesPart (with_given given (with_most most m)) n left
-          (if stored then goes_on tt else item_action said x prompt)
-          → RefinesPart i n (item_action said x prompt) (goes_on tt)
-      answering_done n stored is h =
-          refines_part_then asked_line
-          (subst (λ (b : Bool). RefinesPart (with_given given (with_most most m)) n left
-          (if b then goes_on tt else item_action said x prompt)) is h)
-
-      pub answering_again : (n : Trace) (stored : Bool) → stored ≡ false
-          → RefinesPart (with_given given (with_most most m)) n left
-          (if stored then goes_on tt else item_action said x prompt)
-          → RefinesPart i n (item_action said x prompt) (item_action said x prompt)
-      answering_again n stored is h =
-          refines_part_then asked_line
-          (subst (λ (b : Bool). RefinesPart (with_given given (with_most most m)) n left
-          (if b then goes_on tt else item_action said x prompt)) is h)
+  pub answering_again : (n : Trace) (stored : Bool) → stored ≡ false
+      → RefinesPart k n (line_left said x prompt at l) (if stored then goes_on tt else item_action said x prompt)
+      → RefinesPart i n (item_action said x prompt) (item_action said x prompt)
+  answering_again n stored is h =
+      refines_part_then given (subst (λ (b : Bool). RefinesPart k n (line_left said x prompt at l)
+      (if b then goes_on tt else item_action said x prompt)) is h)

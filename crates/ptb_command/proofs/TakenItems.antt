@@ -27,7 +27,7 @@ use Rattle.ptb_command.specs.ScreenOperations.{ArePartsDone, IsOnlyItem, IsPartD
 use Rattle.ptb_command.specs.Stops.{Comes, NotMissed, miss_of}
 use Rattle.ptb_command.specs.Traces.{Trace, with_pending, still_pending, RefinesPart}
 use Rattle.ptb_command.proofs.Borrows.{borrows_on}
-use Rattle.ptb_command.proofs.InputItems.{line_left, take_refines_part, take_stops, with_given, with_most}
+use Rattle.ptb_command.proofs.InputItems.{line_asked, line_left, take_refines_part, take_stops, with_given, with_most}
 use Rattle.ptb_command.proofs.LineAnswers.{answering_again, answering_done, answering_fails}
 use Rattle.ptb_command.proofs.MissedLines.{fewer_lines, missed_from, missed_on, stop_unmissed}
 use Rattle.ptb_command.proofs.PartRefinement.{refines_part_refl, refines_part_under}
@@ -48,21 +48,23 @@ module _ (rest : List Part) (w : ℕ) (operands : List ℤ) (x : Tree) (prompt :
       {i m : Trace} (n : Trace) (at : Target) (most : ℕ) (l : List ℕ) (given : List (List ℕ))
       (asked : RefinesPart i m (ask_for [] x prompt) (goes_on at)) (fewer : most + 1 ≤ m.devices.most)
       (is : given ≡ m.devices.given ++ l ∷ []) where
+    line_given : RefinesPart i (with_given given (with_most most m)) (item_action [] x prompt)
+        (line_left [] x prompt at l)
+    line_given = line_asked [] x prompt most at l given (refines_part_refl _ _) asked fewer is
+
     pub taken_comes : (r : Result Bool CommandStop)
         → Comes (refused_answers answers) (with_given given (with_most most m)) n (line_left [] x prompt at l)
         (λ stored. if stored then goes_on tt else item_action [] x prompt) r
         → Comes (refused_by answers unread lines) i n (parts_action (Take [] x prompt ∷ rest) w operands)
         (λ done. parts_action (if done then rest else Take [] x prompt ∷ rest) w operands) r
     taken_comes (Ok true) h =
-        take_refines_part rest w operands [] x prompt
-        (answering_done [] x prompt (refines_part_refl _ _) at asked most l given fewer is n true refl h)
-    taken_comes (Ok false) h =
-        taken_again (answering_again [] x prompt (refines_part_refl _ _) at asked most l given fewer is n false refl h)
+        take_refines_part rest w operands [] x prompt (answering_done [] x prompt at l line_given n true refl h)
+    taken_comes (Ok false) h = taken_again (answering_again [] x prompt at l line_given n false refl h)
     taken_comes (Err e) h =
         take_stops rest w operands (refused_by answers unread lines) i
         (with_pending (still_pending n.pending e) n) [] x prompt e
-        (answering_fails [] x prompt (refines_part_refl _ _) at asked most l given fewer is answers unread lines n
-        (λ (stored : Bool). goes_on tt) (Err e) e refl h)
+        (answering_fails [] x prompt at l line_given answers unread lines n (λ (stored : Bool). goes_on tt) (Err e) e
+        refl h)
 
 -- ---- the part
 
