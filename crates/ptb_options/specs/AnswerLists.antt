@@ -9,7 +9,8 @@
 --     SpellsAnswers s a      the text s writes a list of these answers, without bounds
 --     HasNoAnswers s         the text s writes no list without bounds
 --     IsListFault fault      a list alone can have this fault
-use Rattle.std.specs.Prelude.{◌≡◌, ℕ, List, ℤ, pos, ◌≤ℤ◌, All}
+--     IsListRead spells r    r is the result of reading a text that `spells` at most one list
+use Rattle.std.specs.Prelude.{◌≡◌, ◌≢◌, ℕ, List, [], ℤ, pos, ◌≤ℤ◌, All, Result, Err, IfOk, IfErr}
 use Rattle.std.specs.Fmt.{signed_decimal}
 use Rattle.std.specs.Option.{ForSome}
 use Rattle.ptb_answers.specs.declared.form.Marked.{Marked}
@@ -51,3 +52,12 @@ abbrev pub IsListFault : UsageFault → Type 0
 IsListFault usage.BadList = Unit {0}
 IsListFault usage.Memory = Unit {0}
 IsListFault _ = ⊥
+
+-- this is the result of reading a text that spells at most one list
+pub record IsListRead {A : Type 0} (spells : List A → Type 0) (result : Result (List A) UsageFault) : Type 0 where
+  pub ok : IfOk result spells
+  pub bad : result ≡ Err usage.BadList → (list : List A) → spells list → ⊥
+  -- memory is wanted only for a list that has items
+  pub memory : result ≡ Err usage.Memory → (list : List A) × spells list × (list ≢ [])
+  pub fault : IfErr result IsListFault
+  pub one : (a b : List A) → spells a → spells b → a ≡ b
