@@ -154,16 +154,8 @@ impl<'a> Explorer<'a> {
         ensures laws { TreeLaws (play program.now lines.now rules)
             (most_answers program.now lines.now rules.limit) }
     {
-        match Explorer::open(alloc, program, lines, rules, &[], None) {
-            Ok(explorer) => Ok(explorer),
-            Err(OpenFault::Memory) => Err(AllocError),
-
-            // Each run begins with no answers.
-            Err(OpenFault::NoBeginning(_)) => unreachable!(),
-
-            // No run is named.
-            Err(OpenFault::NotARun(_)) => unreachable!(),
-        }
+        // Each run begins with no answers, and no run is named. So memory alone can be missing.
+        Explorer::open(alloc, program, lines, rules, &[], None).or(Err(AllocError))
     }
 
     /// An explorer before the first of the runs that begin with the answers of a list, of which some
@@ -268,7 +260,7 @@ impl<'a> Explorer<'a> {
     {
         run_laws();
         let list = unmarked(alloc, answers)?;
-        Explorer::after_marked(alloc, program, lines, rules, &list)
+        Explorer::open(alloc, program, lines, rules, &[], Some(&list))
     }
 
     /// Moves to the run of the answers of a list, of which some may have their bounds.
