@@ -30,6 +30,7 @@ mod StatedBounds
 mod BegunRuns
 mod Progress
 mod WrittenReports
+mod PlayedRuns
 mod Samples
 mod DrawnRuns
 mod Mismatches

@@ -17,13 +17,18 @@
 --     AreKeptAt f runs             the same, of what contracts see of them
 --     IsPlayed play a n            the run of these answers has so many steps
 --     IsAdded play a old new       its steps were added to those played
+--     run_steps outcome            the steps of a run
+--     steps_of_runs play runs      those of some runs together
+--     steps_left e                 those of the runs that are left
+--     PlaysRuns old new            no more steps were played than the runs have that are no longer left
+--     PlaysOneMore old new         the same, or more by less than one play can add
 --     NextPlays ..                 how many steps were played after the next run
-use Rattle.std.specs.Prelude.{◌≡◌, ℕ, ◌+◌, ◌-◌, ◌<◌, ◌≤◌, List, [], length, drop, Bool, true, false, Option}
+use Rattle.std.specs.Prelude.{◌≡◌, ℕ, ◌+◌, ◌-◌, ◌<◌, ◌≤◌, List, [], ◌∷◌, length, drop, Bool, true, false, Option}
 use Rattle.std.specs.Prelude.{Some, None, Result, Ok, Err}
 use Rattle.std.specs.declared.alloc.AllocError.{AllocError}
 use Rattle.std.specs.Borrow.{Bor}
 use Rattle.ptb_text.specs.Statements.{StoredProgram}
-use Rattle.ptb_answers.specs.Outcome.{Answers, Outcome, Done, bounds}
+use Rattle.ptb_answers.specs.Outcome.{Answers, Outcome, Done, Asks, Out, bounds}
 use Rattle.ptb_answers.specs.declared.rules.Rules.{Rules}
 use Rattle.ptb_command.specs.Configuration.{Configuration}
 use Rattle.ptb_devices.specs.Sources.{LineList}
@@ -39,7 +44,7 @@ use Rattle.ptb_explore.specs.Copies.{KeptRun, Agrees, AreCopies, AreBeginnings, 
 use Rattle.ptb_explore.specs.PlannedPlays.{IsRunPrefix}
 use Rattle.ptb_explore.specs.Plans.{IsFresh}
 use Rattle.ptb_explore.specs.Recorders.{recorded, recorder_choices}
-use Rattle.ptb_machine.specs.RunTree.{Front, Start, At, End, IsNextRun, IsLast}
+use Rattle.ptb_machine.specs.RunTree.{Front, Start, At, End, IsNextRun, IsLast, runs_after}
 
 -- ---- explorers
 
@@ -169,6 +174,28 @@ IsPlayed play a n = (f : Finish) → play a ≡ Done f [] → n ≡ f.steps
 -- fewer than one play can add
 abbrev pub IsAdded : (Answers → Outcome Finish (List ℕ)) → Answers → ℕ → ℕ → Type 0
 IsAdded play a old new = (f : Finish) → play a ≡ Done f [] → (new ≡ more_played old f.steps) × (f.steps < play_limit)
+
+-- of what is no run there are none
+abbrev pub run_steps : Outcome Finish (List ℕ) → ℕ
+run_steps (Done f rest) = f.steps
+run_steps (Asks n shown) = 0
+run_steps (Out n shown) = 0
+
+abbrev pub steps_of_runs : (Answers → Outcome Finish (List ℕ)) → List Answers → ℕ
+steps_of_runs play [] = 0
+steps_of_runs play (a ∷ list) = run_steps (play a) + steps_of_runs play list
+
+-- those of the runs that it has left
+abbrev pub steps_left : Exploration → ℕ
+steps_left e = steps_of_runs (play_of e) (runs_after (play_of e) (most_of e) e.under e.front)
+
+-- no more were played than the runs have that are no longer left
+abbrev pub PlaysRuns : Exploration → Exploration → Type 0
+PlaysRuns old new = new.played + steps_left new ≤ old.played + steps_left old
+
+-- or more by less than one play can add
+abbrev pub PlaysOneMore : Exploration → Exploration → Type 0
+PlaysOneMore old new = new.played + steps_left new < old.played + steps_left old + play_limit
 
 abbrev pub NextPlays : List KeptRun → ℕ → Report → ℕ → Bool → Type 0
 NextPlays kept old r new true = new ≡ played_after kept old r

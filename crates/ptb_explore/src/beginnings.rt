@@ -21,9 +21,9 @@ use std::marker::Model;
 /// their answers: the runs of at most `most` answers, and the lists of `most` answers after which the
 /// program asks again.
 ///
-/// No play goes past the question that follows a list. As an [`Explorer`](crate::Explorer) does, it
-/// keeps copies of the machine, so that the next play starts from the last place at which it is the
-/// same.
+/// No play goes past the question after its first `most` answers. As an
+/// [`Explorer`](crate::Explorer) does, it keeps copies of the machine, so that the next play starts
+/// from the last place at which it is the same.
 #[derive(Drop)]
 pub struct Beginnings<'a> {
     /// Plays the program; its report has the answers and bounds of the list at which the search is.

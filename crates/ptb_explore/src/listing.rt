@@ -1,9 +1,9 @@
 // This file writes the reports of all runs.
 
-ghost use Rattle.std.specs.Prelude.{◌≡◌, ◌≤◌};
+ghost use Rattle.std.specs.Prelude.{◌≡◌, ◌≤◌, ℕ, IsErrOf};
 ghost use Rattle.ptb_explore.specs.Prelude.{play_of, most_of, IsSameListing, less_one, report, runs_left};
-ghost use Rattle.ptb_explore.specs.Prelude.{NextWrites, WritesRuns, FailsToWrite, FailsOnlyToWrite};
-ghost use Rattle.ptb_explore.specs.Prelude.{FailsAfterSome, FailsOnlyAfterSome};
+ghost use Rattle.ptb_explore.specs.Prelude.{NextWrites, WritesRuns, FailsToWrite, FailsOnlyToWrite, PlaysRuns};
+ghost use Rattle.ptb_explore.specs.Prelude.{FailsAfterSome, FailsOnlyAfterSome, PlaysOneMore};
 
 use crate::explorer::Explorer;
 use crate::fault::ExploreFault;
@@ -21,12 +21,15 @@ fn write_next<W: Write>(
 ) -> Result<bool, DeviceFault>
     ensures same { IsSameListing explorer.old explorer.new }
     ensures rises { explorer.old.played ≤ explorer.new.played }
+    ensures played { ¬ IsErrOf result DeviceFault.Memory → PlaysRuns explorer.old explorer.new }
+    ensures once { PlaysOneMore explorer.old explorer.new }
     ensures writes { NextWrites (play_of explorer.old) explorer.old.under
         (report form (play_of explorer.old)) explorer.old.front explorer.new.front
         (W.contents writer.old) (W.contents writer.new) result }
     ensures failed { FailsToWrite result (W.failures writer.old) (W.failures writer.new) }
     ensures unfailed { FailsOnlyToWrite result (W.failures writer.old) (W.failures writer.new) }
 {
+    run_laws();
     match explorer.next() {
         Err(_) => Err(DeviceFault::Memory),
         Ok(None) => Ok(false),
@@ -56,7 +59,8 @@ fn one_less(remaining: Option<u64>) -> Option<u64>
 /// writer failed, each with the number of reports that were written. The explorer is then at
 /// the last run of them, or at the one whose report was begun. Both come only while a report was
 /// still to be written, never after the last of those asked for. The commands that were played count
-/// in [`played`](Explorer::played).
+/// in [`played`](Explorer::played): at most those of the runs that were reported, or whose report was
+/// begun, and those of one play that was refused memory.
 pub fn write_all_runs<W: Write>(
     explorer: &mut Explorer,
     first: Option<u64>,
@@ -65,6 +69,9 @@ pub fn write_all_runs<W: Write>(
 ) -> Result<u64, ExploreFault>
     ensures same { IsSameListing explorer.old explorer.new }
     ensures rises { explorer.old.played ≤ explorer.new.played }
+    ensures played { ((n : ℕ) → ¬ IsErrOf result (ExploreFault.Memory n))
+        → PlaysRuns explorer.old explorer.new }
+    ensures once { PlaysOneMore explorer.old explorer.new }
     ensures writes { WritesRuns (play_of explorer.old) explorer.old.under
         (report form (play_of explorer.old))
         (runs_left (play_of explorer.old) (most_of explorer.old) explorer.old.under

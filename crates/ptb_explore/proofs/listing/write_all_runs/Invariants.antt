@@ -2,7 +2,7 @@
 use Rattle.std.proofs.Common.{◌≡◌, ◌≤◌, length}
 use Rattle.ptb_machine.specs.RunTree.{runs_left, runs_after}
 use Rattle.ptb_explore.specs.Report.{report}
-use Rattle.ptb_explore.specs.Explorations.{play_of, most_of}
+use Rattle.ptb_explore.specs.Explorations.{PlaysRuns, play_of, most_of}
 use Rattle.ptb_explore.proofs.Progress.{ListingProgress}
 use Rattle.ptb_explore.proofs.listing.write_all_runs.Given as goal
 
@@ -13,6 +13,7 @@ invariant-loop-form g l =
       same : l.explorer ≡ record l.fn.explorer
           { front = l.explorer.front; kept = l.explorer.kept; played = l.explorer.played };
       rises : l.fn.explorer.played ≤ l.explorer.played;
+      played : PlaysRuns l.fn.explorer l.explorer;
       unfailed : g.W.Write.failures l.writer ≡ g.W.Write.failures l.fn.writer;
       progress : ListingProgress play (most_of l.fn.explorer) l.fn.explorer.under (report l.fn.form play)
           (runs_left play (most_of l.fn.explorer) l.fn.explorer.under l.fn.explorer.front l.fn.first)
