@@ -21,6 +21,7 @@ use Rattle.std.proofs.lemmas.Fmt.{decimal_digit, decimal_is_IsNumeral, first_dec
 use Rattle.std.proofs.lemmas.Fmt.{decimal-digits_value, parse-signed_decimal}
 use Rattle.std.proofs.lemmas.Fmt.{signed_decimal_injective}
 use Rattle.std.proofs.lemmas.Str.Parse.{IsNumeralModel, numerals_by_value, tells_digits, digit_at, parse_signed_plain}
+use Rattle.std.proofs.lemmas.Option.{none-some}
 use mir.Syntax.{w16}
 use Rattle.ptb_answers.specs.declared.form.Marked.{Marked}
 use Rattle.ptb_answers.specs.AnswerText.{answers_of, bound_text, item_text, spelling, unmarked}
@@ -159,10 +160,7 @@ SpellsItem-first s m h =
 
 -- a word without `/` spells an answer alone
 pub item_of_number : (s : List ℕ) (k : ℤ) → SpellsNumber s k → SpellsItem s (without_bound k)
-item_of_number s k h = ((h.0, λ n e. absurd (none_is_some n e)), append-nil (signed_decimal k) ∙ h.1)
-  where
-    none_is_some : (n : ℤ) → ◌≡◌ {A = Option ℤ} None (Some n) → ⊥
-    none_is_some n e = cc
+item_of_number s k h = ((h.0, λ n e. absurd (none-some n e)), append-nil (signed_decimal k) ∙ h.1)
 
 -- and one with `/` an answer with its bound
 pub item_of_numbers : (s a b : List ℕ) (k n : ℤ) → s ≡ a ++ 47 ∷ b → SpellsNumber a k → SpellsNumber b n

@@ -6,19 +6,13 @@ use Rattle.std.proofs.Common.{[], length, Option, Some, None, IfSome}
 use Rattle.std.specs.Prelude.{codes, is_some, nat_eq, slice_get}
 use lib.Pointwise.{pointwise}
 use Rattle.std.proofs.lemmas.Bool.{false≢true}
-use Rattle.std.proofs.lemmas.Option.{slice_get-get_or, slice_get_past}
+use Rattle.std.proofs.lemmas.Option.{none-some, same_Some, slice_get-get_or, slice_get_past}
 use Rattle.std.proofs.lemmas.Slice.Eq.{bytes_eq-Decides}
 use Rattle.ptb_options.specs.WrongNumbers.{HasNoWrongNumber, HasNoWrongValue, IsWrongAt, IsWrongNumber, IsWrongValue}
 use Rattle.ptb_options.specs.declared.wrong_numbers.WrongNumber.{WrongNumber}
 
 abbrev pub dashes : List ℕ
 dashes = codes "--"
-
-some_injective : (a b : List ℕ) → Some a ≡ Some b → a ≡ b
-some_injective a b e = cc
-
-none_is_some : (a : List ℕ) → ◌≡◌ {A = Option (List ℕ)} None (Some a) → ⊥
-none_is_some a e = cc
 
 -- an argument that was skipped: it is not `--`, and gives no wrong value
 pub record IsPassed (words : List (List ℕ)) (place : ℕ) : Type 0 where
@@ -47,8 +41,8 @@ none_at_dashes words i passed low here place w wrong =
 missing : (words : List (List ℕ)) (place : ℕ) (w : WrongNumber) → slice_get words place ≡ None
     → IsWrongValue (slice_get words place) (slice_get words (place + 1)) w → ⊥
 missing words place w none wrong = elim wrong.given [
-  | inl e ↦ none_is_some _ (sym none ∙ e)
-  | inr e ↦ none_is_some _ (sym none ∙ e.0)
+  | inl e ↦ none-some _ (sym none ∙ e)
+  | inr e ↦ none-some _ (sym none ∙ e.0)
 ]
 
 -- where all were skipped, there is none
@@ -62,7 +56,7 @@ none_after words i passed all place w wrong = by_place (leb i place) refl where
 -- each place below their number has one
 pub there_is : (words : List (List ℕ)) (i : ℕ) (found : Option (List ℕ)) → i < length words → found ≡ slice_get words i
     → found ≡ None → ⊥
-there_is words i found within at none = none_is_some _ (sym none ∙ at ∙ slice_get-get_or words i [] within)
+there_is words i found within at none = none-some _ (sym none ∙ at ∙ slice_get-get_or words i [] within)
 
 -- what is found, and what is not
 pub none_found : (wrong : Option WrongNumber) (b : Bool) → b ≡ is_some wrong → b ≡ false → wrong ≡ None
@@ -89,7 +83,7 @@ module _ (words : List (List ℕ)) (i : ℕ) (word : List ℕ) (found : Option (
   module _ (not : same ≡ false) where
     other : slice_get words i ≢ Some dashes
     other e =
-        let its : word ≡ dashes = some_injective word dashes (sym here ∙ e) in
+        let its : word ≡ dashes = same_Some word dashes (sym here ∙ e) in
         false≢true (sym not ∙ told ∙ ap (λ (t : List ℕ). pointwise nat_eq t dashes) its)
 
     before_more : (j : ℕ) → j < i + 1 → 1 ≤ j → slice_get words j ≢ Some dashes

@@ -26,6 +26,7 @@ use Rattle.clap.specs.declared.parser.matches.MatchedArg.{MatchedArg}
 use Rattle.clap.specs.declared.builder.value_parser.Reading.{Reading}
 use Rattle.clap.specs.declared.builder.value_parser.Reading.TheVariants.{WithoutMinus}
 use Rattle.std.specs.Str.Parse.{ParsesUnsigned}
+use Rattle.std.proofs.lemmas.Option.{none-some, same_Some}
 use Rattle.clap.proofs.WalkLemmas.{one_text-rows}
 use Rattle.clap.proofs.CallerReads.{signed_reads}
 use Rattle.clap.proofs.CallerLemmas.{entry_by_id, same_rules_by_id}
@@ -33,12 +34,6 @@ use Rattle.clap.proofs.SimpleLemmas.{all_simple, plain_fields, simple_groups}
 use Rattle.ptb_options.specs.CommandLine.{number_option, rules as tool_rules, tool}
 use Rattle.ptb_options.specs.Options.{entries_of, number_in, number_of}
 use Rattle.ptb_options.proofs.OptionReads.{number_in-reads}
-
-none_is_some : (n : ℕ) → ◌≡◌ {A = Option ℕ} None (Some n) → ⊥
-none_is_some n e = cc
-
-some_injective : (n k : ℕ) → Some n ≡ Some k → n ≡ k
-some_injective n k e = cc
 
 -- whether none of the rules has a name, and whether none has it but the one at a place
 has_none : List Rule → List ℕ → Bool
@@ -171,20 +166,20 @@ module _ (name : List ℕ) (place low high : ℕ) (option : IsOption name place 
       let read = signed_reads (Unit {0}) (ParsesUnsigned 16 10) 16 low high text (number_in 16 (without_minus text))
       (number_in-reads 16 (without_minus text))
       (λ u x g. g) (omega (arith, option.fits)) h in
-      let same : n ≡ read.0 = some_injective n read.0 (sym found ∙ read.1) in
+      let same : n ≡ read.0 = same_Some n read.0 (sym found ∙ read.1) in
       rw same (read.2, read.3)
 
   values_in_range : (how : Reading) (vs : List (Bor (List ℕ))) → how ≡ WithoutMinus
       → All (λ v. PassesArg p.built name v.now) vs
       → ForSome (option_and_then (number_in 16) (option_map (λ s. read_as how s.now) (slice_get vs 0)))
       (λ n. (low ≤ n) × (n ≤ high))
-  values_in_range how [] is all n found = absurd (none_is_some n found)
+  values_in_range how [] is all n found = absurd (none-some n found)
   values_in_range how (v ∷ vs) is all n found =
       in_range v.now (passed v.now (All-head (λ v. PassesArg p.built name v.now) v vs all)) n (rw is at found)
 
   text_in_range : (o : Option MatchedArg) → matched_of (found_of m) name ≡ o
       → ForSome (option_and_then (number_in 16) (one_text (found_of m) name)) (λ n. (low ≤ n) × (n ≤ high))
-  text_in_range None found = rw found (λ n e. absurd (none_is_some n e))
+  text_in_range None found = rw found (λ n e. absurd (none-some n e))
   text_in_range (Some x) found =
       let e = entry x found in
       let key : e.0.0.now ≡ name = (bytes_eq-Decides e.0.0.now name).0 e.2 in

@@ -5,14 +5,12 @@ use Rattle.std.proofs.Common.{◌∷◌, ◌++◌, length, get_or, Option, Some,
 use Rattle.std.specs.Prelude.{codes, find, option_and_then}
 use Rattle.std.specs.List.{Contains, after_first, before_first, position_or_len}
 use Rattle.std.specs.Str.{bytes_eq}
+use Rattle.std.proofs.lemmas.Option.{same_Some}
 use Rattle.clap.specs.Words.{Rule}
 use Rattle.clap.specs.declared.builder.ValueParser.{ValueParser}
 use Rattle.clap.specs.declared.builder.ValueParser.TheVariants.{Signed, Unsigned}
 use Rattle.ptb_options.specs.CommandLine.{number_option, rules as tool_rules}
 use Rattle.ptb_options.specs.WrongNumbers.{IsNumberRange, option_word}
-
-some_injective : (a b : ValueParser) → Some a ≡ Some b → a ≡ b
-some_injective a b e = cc
 
 -- what holds of each option with a number holds of every rule of one
 module _ (P : List ℕ → ValueParser → Type 0)
@@ -27,7 +25,7 @@ module _ (P : List ℕ → ValueParser → Type 0)
   same : (id : List ℕ) (parser : ValueParser) (name : List ℕ) (range : ValueParser) → P id parser
       → number_option id parser ≡ number_option name range → P name range
   same id parser name range p e =
-      let ranges : parser ≡ range = some_injective parser range (ap (λ (r : Rule). r.parser) e) in
+      let ranges : parser ≡ range = same_Some parser range (ap (λ (r : Rule). r.parser) e) in
       subst (P name) ranges (subst (λ (n : List ℕ). P n parser) (ap (λ (r : Rule). r.id) e) p)
 
   other : (r : Rule) (name : List ℕ) (range : ValueParser) → r.parser ≡ None → r ≡ number_option name range
@@ -81,7 +79,7 @@ range_is = each_number (λ name range. range_of name ≡ Some range) refl refl r
 pub one_range : (name other : List ℕ) (range another : ValueParser) → Contains tool_rules (number_option name range)
     → Contains tool_rules (number_option other another) → name ≡ other → range ≡ another
 one_range name other range another there found e =
-    some_injective range another (sym (range_is name range there) ∙ ap range_of e ∙ range_is other another found)
+    same_Some range another (sym (range_is name range there) ∙ ap range_of e ∙ range_is other another found)
 
 -- the argument that names it has no `=`, so that a value is after the first
 abbrev pub is_equals : ℕ → Bool

@@ -4,6 +4,7 @@ use Rattle.std.proofs.Common.{◌≡◌, ◌∙◌, ap, ap₂, sym, arith, List,
 use Rattle.std.proofs.Common.{FitsSigned, of_z, subst, to_z, to_z-of_z, w16}
 use Rattle.std.specs.Borrow.{Bor}
 use Rattle.std.proofs.lemmas.Int.{ints}
+use Rattle.std.proofs.lemmas.Option.{none-some, same_Some}
 use Rattle.std.proofs.lemmas.Str.Pattern.{IsSplitOnceResult, split_parts}
 use Rattle.ptb_answers.specs.declared.form.Marked.{Marked}
 use Rattle.ptb_answers.specs.AnswerText.{with_bound, without_bound}
@@ -16,19 +17,13 @@ kept k h =
     let fits : FitsSigned w16 k = omega (arith, ints) in
     to_z-of_z fits
 
-none_is_some : {X : Type 0} (k : ℤ) → ◌≡◌ {A = Option ℤ} None (Some k) → X
-none_is_some k e = absurd (cc)
-
-some_number : (k j : ℤ) → Some k ≡ Some j → k ≡ j
-some_number k j e = cc
-
 -- the word has no `/`
 module _ (word : List ℕ) (cut : IsSplitOnceResult 47 word None) where
   pub no_number : {X : Type 0} (m : Marked) → SpellsItem word m
       → ((k : ℤ) → SpellsNumber word k → ◌≡◌ {A = Option ℤ} None (Some k)) → X
   no_number m h only =
       let number = item_is_number word m (split_parts 47 word None cut (omega arith)) h in
-      none_is_some m.answer (only m.answer number.0)
+      absurd (none-some m.answer (only m.answer number.0))
 
   pub number_alone : (k : ℤ) → SpellsNumber word k → SpellsItem word (without_bound (to_z w16 (of_z w16 k)))
   number_alone k h = subst (λ (j : ℤ). SpellsItem word (without_bound j)) (sym (kept k h.0)) (item_of_number word k h)
@@ -37,7 +32,7 @@ module _ (word : List ℕ) (cut : IsSplitOnceResult 47 word None) where
       → ((j : ℤ) → SpellsNumber word j → Some k ≡ Some j) → Some (without_bound (to_z w16 (of_z w16 k))) ≡ Some m
   number_only k spells m h only =
       let number = item_is_number word m (split_parts 47 word None cut (omega arith)) h in
-      ap (λ (j : ℤ). Some (without_bound j)) (kept k spells.0 ∙ some_number k m.answer (only m.answer number.0))
+      ap (λ (j : ℤ). Some (without_bound j)) (kept k spells.0 ∙ same_Some k m.answer (only m.answer number.0))
       ∙ ap Some (sym number.1)
 
 -- it is cut there into a text and another
@@ -50,11 +45,11 @@ module _ (word : List ℕ) (a b : Bor (List ℕ)) (cut : IsSplitOnceResult 47 wo
 
   pub no_answer : {X : Type 0} (m : Marked) → SpellsItem word m
       → ((k : ℤ) → SpellsNumber a.now k → ◌≡◌ {A = Option ℤ} None (Some k)) → X
-  no_answer m h only = none_is_some m.answer (only m.answer (numbers m h).1)
+  no_answer m h only = absurd (none-some m.answer (only m.answer (numbers m h).1))
 
   pub no_bound : {X : Type 0} (m : Marked) → SpellsItem word m
       → ((k : ℤ) → SpellsNumber b.now k → ◌≡◌ {A = Option ℤ} None (Some k)) → X
-  no_bound m h only = let n = numbers m h in none_is_some n.0 (only n.0 n.2)
+  no_bound m h only = let n = numbers m h in absurd (none-some n.0 (only n.0 n.2))
 
   module _ (k n : ℤ) (answer : SpellsNumber a.now k) (bound : SpellsNumber b.now n) where
     pub both : SpellsItem word (with_bound (to_z w16 (of_z w16 k)) (to_z w16 (of_z w16 n)))
@@ -69,5 +64,5 @@ module _ (word : List ℕ) (a b : Bor (List ℕ)) (cut : IsSplitOnceResult 47 wo
         → Some (with_bound (to_z w16 (of_z w16 k)) (to_z w16 (of_z w16 n))) ≡ Some m
     both_only m h first second =
         let found = numbers m h in
-        ap₂ (λ (i j : ℤ). Some (with_bound i j)) (kept k answer.0 ∙ some_number k m.answer (first m.answer found.1))
-        (kept n bound.0 ∙ some_number n found.0 (second found.0 found.2)) ∙ ap Some (sym found.3)
+        ap₂ (λ (i j : ℤ). Some (with_bound i j)) (kept k answer.0 ∙ same_Some k m.answer (first m.answer found.1))
+        (kept n bound.0 ∙ same_Some n found.0 (second found.0 found.2)) ∙ ap Some (sym found.3)

@@ -6,6 +6,7 @@ use Rattle.std.specs.Prelude.{codes}
 use Rattle.std.specs.Borrow.{Bor}
 use Rattle.std.specs.List.{position_or_len}
 use Rattle.std.proofs.lemmas.Str.Pattern.{IsSplitOnceResult, split_once_first, split_parts}
+use Rattle.std.proofs.lemmas.Option.{none-some, same_Some}
 use Rattle.clap.specs.Words.{Accepts}
 use Rattle.clap.specs.declared.builder.ValueParser.{ValueParser}
 use Rattle.ptb_options.specs.WrongNumbers.{HasNoWrongValue, IsNumberOption, IsWrongFor}
@@ -13,12 +14,6 @@ use Rattle.ptb_options.specs.WrongNumbers.{IsWrongValue, NamesNoNumber, option_w
 use Rattle.ptb_options.specs.declared.wrong_numbers.NumberOption.{NumberOption}
 use Rattle.ptb_options.specs.declared.wrong_numbers.WrongNumber.{WrongNumber}
 use Rattle.ptb_options.proofs.NumberRules.{IsCut, cut, is_equals, one_range}
-
-some_injective : (a b : List ℕ) → Some a ≡ Some b → a ≡ b
-some_injective a b e = cc
-
-none_is_some : (a : List ℕ) → ◌≡◌ {A = Option (List ℕ)} None (Some a) → ⊥
-none_is_some a e = cc
 
 names_injective : (a b : List ℕ) → option_word a ≡ option_word b → a ≡ b
 names_injective a b e = cc
@@ -51,13 +46,13 @@ module _ (word : List ℕ) (next : Option (List ℕ)) (name value : Bor (List �
       elim h.given [
         | inl e ↦
             let all : word ≡ option_word w.option.name.now ++ 61 ∷ w.value.now =
-            some_injective _ _ e ∙ append_assoc (option_word w.option.name.now) (61 ∷ []) w.value.now in
+            same_Some _ _ e ∙ append_assoc (option_word w.option.name.now) (61 ∷ []) w.value.now in
             record {
               name_is = sym (its.before w.value.now) ∙ sym (rw all at first.1);
               value_is = sym (its.after w.value.now) ∙ sym (rw all at first.2);
             }
         | inr e ↦
-            let all : word ≡ option_word w.option.name.now = some_injective _ _ e.0 in
+            let all : word ≡ option_word w.option.name.now = same_Some _ _ e.0 in
             let inside : position_or_len is_equals (option_word w.option.name.now)
             < length (option_word w.option.name.now) = rw all at first.0 in
             let alone = its.alone in
@@ -101,20 +96,20 @@ module _ (word : List ℕ) (next : Option (List ℕ)) (split : IsSplitOnceResult
       elim h.given [
         | inl e ↦
             let all : word ≡ option_word w.option.name.now ++ 61 ∷ w.value.now =
-            some_injective _ _ e ∙ append_assoc (option_word w.option.name.now) (61 ∷ []) w.value.now in
+            same_Some _ _ e ∙ append_assoc (option_word w.option.name.now) (61 ∷ []) w.value.now in
             let inside = its.inside w.value.now in
             let ends : position_or_len is_equals (option_word w.option.name.now ++ 61 ∷ w.value.now)
             ≡ length (option_word w.option.name.now ++ 61 ∷ w.value.now) = rw all at none in
             absurd (omega arith)
-        | inr e ↦ record { name_is = sym (some_injective _ _ e.0); value_is = e.1 }
+        | inr e ↦ record { name_is = sym (same_Some _ _ e.0); value_is = e.1 }
       ]
 
   pub last : next ≡ None → HasNoWrongValue (Some word) next
-  last missing w h = none_is_some w.value.now (sym missing ∙ (next_given w h).value_is)
+  last missing w h = none-some w.value.now (sym missing ∙ (next_given w h).value_is)
 
   pub accepted_next : (o : NumberOption) (value : List ℕ) → next ≡ Some value → IsNumberOption word o
       → Accepts false o.range value → HasNoWrongValue (Some word) next
   accepted_next o value there named good w h =
       let given = next_given w h in
       accepted o word w next value (Some word) named good h given.name_is
-      (some_injective _ _ (sym given.value_is ∙ there))
+      (same_Some _ _ (sym given.value_is ∙ there))

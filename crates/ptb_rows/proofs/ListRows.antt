@@ -8,6 +8,7 @@ use Rattle.std.specs.List.{slice_split}
 use Rattle.std.proofs.lemmas.Int.{ints}
 use Rattle.std.proofs.lemmas.List.Elements.{All-nil, All-cons}
 use Rattle.std.proofs.lemmas.Fmt.{signed_decimal_injective}
+use Rattle.std.proofs.lemmas.Option.{none-some}
 use Rattle.clap.proofs.CutLemmas.{Lacks}
 use Rattle.ptb_answers.specs.declared.form.Marked.{Marked}
 use Rattle.ptb_answers.specs.AnswerText.{with_bound, without_bound}
@@ -65,10 +66,7 @@ bound_wrong b low m h =
     omega (arith, first.1, low)
 
 listed : (k : ℤ) (a : List Marked) → IsAnswer k → All IsItem a → All IsItem (without_bound k ∷ a)
-listed k a h each = All-cons IsItem (without_bound k) a (h, λ n e. absurd (none_is_some n e)) each
-  where
-    none_is_some : (n : ℤ) → ◌≡◌ {A = Option ℤ} None (Some n) → ⊥
-    none_is_some n e = cc
+listed k a h each = All-cons IsItem (without_bound k) a (h, λ n e. absurd (none-some n e)) each
 
 -- an answer of at most 32767
 answer_from : (n : ℕ) → 0 < n → n ≤ 32767 → IsAnswer (pos n)

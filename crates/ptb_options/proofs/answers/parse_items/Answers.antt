@@ -1,9 +1,10 @@
 -- This file answers what is left to prove of `parse_items`.
-use Rattle.std.proofs.Common.{◌≡◌, ◌∙◌, ap, sym, map, Option, Some, None, [], ◌∷◌, ◌++◌}
+use Rattle.std.proofs.Common.{◌≡◌, ◌∙◌, ap, sym, map, Some, [], ◌∷◌, ◌++◌}
 use Rattle.std.specs.Result.{result_ok}
 use Rattle.std.proofs.lemmas.List.{map-append}
 use Rattle.std.proofs.lemmas.List.Elements.{All-push}
 use Rattle.std.proofs.lemmas.Iterator.Consumers.{YieldsList-turn, YieldsList-end}
+use Rattle.std.proofs.lemmas.Option.{none-some}
 use Rattle.ptb_options.specs.AnswerLists.{IsItem, SpellsItem}
 use Rattle.ptb_options.specs.declared.usage.UsageFault.TheVariants.{Memory}
 use Rattle.ptb_options.proofs.AnswerTexts.{list_of_words, word_of_items, more_words}
@@ -12,9 +13,6 @@ use Rattle.ptb_options.proofs.ListReturns.{memory_is_bad, none_is_items, read_is
 use Rattle.ptb_options.proofs.ListReturns.{read_is_memory, refused_as_list, refused_is_read, some_text}
 use Rattle.ptb_options.proofs.ListReturns.{word_refused_as_list}
 use Rattle.ptb_options.proofs.answers.parse_items.Goals as goal
-
-none_is_some : {T : Type 0} (x : T) → ◌≡◌ {A = Option T} None (Some x) → ⊥
-none_is_some x e = cc
 
 pub returns-then-eq : goal.returns-then-eq
 returns-then-eq g c = record {
@@ -53,7 +51,7 @@ returns-in_err-item g c = record {
       let some = some_text text c.eq.result c.eq.ensures c.if-eq.false in
       let spelled = word_of_items g.T.ListItem.marked text items _ c.in-Some.word.now some spells turn.0 turn.1 in
       let read = c.parse.ensures.only spelled.0 spelled.1 in
-      none_is_some spelled.0 (sym (c.ok_or.ensures.ok_part ∙ ap result_ok c.in_err-item.was) ∙ read);
+      none-some spelled.0 (sym (c.ok_or.ensures.ok_part ∙ ap result_ok c.in_err-item.was) ∙ read);
   memory = λ refused. some_text c.args.text.now c.eq.result c.eq.ensures c.if-eq.false;
   fault = word_refused_as_list c.parse.result c.ok_or.result c.from_residual.result _ c.ok_or.ensures.value
       c.in_err-item.was c.from_residual.ensures.1;

@@ -1,15 +1,12 @@
 -- This file answers why the text of an item is refused.
-use Rattle.std.proofs.Common.{◌≡◌, ◌∙◌, sym, Option, Some, None}
-use Rattle.ptb_answers.specs.declared.form.Marked.{Marked}
+use Rattle.std.proofs.Common.{◌∙◌, sym}
+use Rattle.std.proofs.lemmas.Option.{none-some}
 use Rattle.ptb_options.proofs.ListFaults.{marked_item, no_item}
 use Rattle.ptb_options.proofs.mistakes.item_fault.Goals as goal
 
-none_is_some : (m : Marked) → ◌≡◌ {A = Option Marked} None (Some m) → ⊥
-none_is_some m e = cc
-
 pub returns-in_default-clause-some : goal.returns-in_default-clause-some
 returns-in_default-clause-some c =
-    no_item c.args.bounds c.args.word.now (λ m h. none_is_some m (c.in_default.ensures.only m h))
+    no_item c.args.bounds c.args.word.now (λ m h. none-some m (c.in_default.ensures.only m h))
 
 pub returns-then-is_some-clause-some : goal.returns-then-is_some-clause-some
 returns-then-is_some-clause-some c =
