@@ -6,18 +6,15 @@ use Rattle.ptb_options.proofs.PublicLemmas.{first_of-get_str}
 use Rattle.ptb.specs.Exits.{is_answered}
 use Rattle.ptb.proofs.Seeds.{no_seed_for_answers, no_seed_for_input, no_seed_for_output, same_presence, seed_for_none}
 use Rattle.ptb.proofs.arguments.draw_seed.Goals as goal
-use Rattle.ptb.proofs.arguments.draw_seed.Goals.{then-not-terminals-via-then-not-terminals}
-use Rattle.ptb.proofs.arguments.draw_seed.Goals.{then-not-terminals-via-else-not-terminals+then-not-terminals-2}
-use Rattle.ptb.proofs.arguments.draw_seed.Goals.{then-not-terminals-via-else-not-terminals+else-not-terminals-2+then-is_some}
 
 pub returns-then-not-terminals-clause-draws : goal.returns-then-not-terminals-clause-draws
 returns-then-not-terminals-clause-draws g c = elim c.then-not-terminals.branch [
-  | then-not-terminals-via-then-not-terminals w ↦
+  | goal.then-not-terminals-via-then-not-terminals w ↦
       no_seed_for_input c.args.console.now.terminals.input c.args.console.now.terminals.output
       (is_some (options_of (entries_of c.args.matches.now)).answers) (is_answered c.args.mode.now) (search rules)
-  | then-not-terminals-via-else-not-terminals+then-not-terminals-2 w ↦
+  | goal.then-not-terminals-via-else-not-terminals+then-not-terminals-2 w ↦
       no_seed_for_output c.args.console.now.terminals.input _ _ _ (search rules)
-  | then-not-terminals-via-else-not-terminals+else-not-terminals-2+then-is_some w ↦
+  | goal.then-not-terminals-via-else-not-terminals+else-not-terminals-2+then-is_some w ↦
       let found = same_presence _ w.get_str.result _
       (first_of-get_str c.args.matches.now (codes "answers") w.get_str.result w.get_str.ensures) in
       no_seed_for_answers c.args.console.now.terminals.input c.args.console.now.terminals.output _ _
