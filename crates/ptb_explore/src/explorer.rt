@@ -1,10 +1,8 @@
 // This file has the explorer, which finds all runs of a program.
 
-ghost use Rattle.std.specs.Prelude.{◌≡◌, ◌≤◌, Ok, None, length};
-ghost use Rattle.std.specs.Prelude.{IfOk, IfSome, IfNone};
-ghost use Rattle.ptb_answers.specs.AskedQuestions.{answers_in};
-ghost use Rattle.ptb_explore.specs.Explorations.{play_of, most_of, Reports};
-ghost use Rattle.ptb_machine.specs.RunTree.{IsNextRun, IsLast};
+ghost use Rattle.std.specs.Prelude.{◌≡◌, ◌≤◌, Ok, None, length, IfOk, IfSome, IfNone};
+ghost use Rattle.ptb_explore.specs.Prelude.{answers_in, play_of, most_of, Reports, IsNextRun, IsLast};
+ghost use Rattle.ptb_explore.specs.Prelude.{ArePlaces, AreKeptAt};
 
 use crate::plan::ListingPosition;
 use crate::report::Report;
@@ -32,12 +30,9 @@ pub struct Explorer<'a> {
 
 impl<'a> Model for Explorer<'a> {
     ghost use Rattle.std.specs.Coded.{codes};
-    ghost use Rattle.ptb_answers.specs.AnswerText.{answers_of};
-    ghost use Rattle.ptb_answers.specs.AskedQuestions.{answers_in, bounds_in};
     ghost use Rattle.ptb_answers.specs.contracts.rules.Rules as rules_type;
-    ghost use Rattle.ptb_explore.specs.Copies.{kept_runs};
-    ghost use Rattle.ptb_explore.specs.Explorations.{Exploration, exploration, AreCopiesAt, game_of};
-    ghost use Rattle.ptb_explore.specs.Plans.{IsPosition, front_at};
+    ghost use Rattle.ptb_explore.specs.Prelude.{answers_of, answers_in, bounds_in, kept_runs, Exploration};
+    ghost use Rattle.ptb_explore.specs.Prelude.{exploration, AreCopiesAt, game_of, IsPosition, front_at};
 
     ghost Value = { Exploration };
 
@@ -57,8 +52,6 @@ impl<'a> Model for Explorer<'a> {
 impl<'a> Explorer<'a> {
     ghost use Rattle.std.specs.Borrow.{sem};
     ghost use Rattle.ptb_explore.specs.LentReports.{NextRests};
-    ghost use Rattle.ptb_explore.specs.Copies.{ArePlaces};
-    ghost use Rattle.ptb_explore.specs.Explorations.{AreKeptAt};
 
     /// Goes to the next run, and lends its report. `None` says that no run is left; so does every
     /// later call then.
