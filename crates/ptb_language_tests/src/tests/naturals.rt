@@ -1,10 +1,9 @@
-// This file tests natural numbers: sums, products, quotients, their order and their decimals.
+// This file tests natural numbers: sums, products, quotients and their decimals.
 
 use crate::tests::decimals::is_written;
 use crate::tests::shared::{Row, expect_rows, expect_same, table};
 use ptb_numbers::Natural;
 use std::alloc::{AllocError, Global};
-use std::cmp::Ordering;
 
 // A step of a calculation with a number and another one.
 enum Step {
@@ -16,10 +15,6 @@ enum Step {
     Fibonacci(u32),
     // The two change places.
     Exchanged,
-    // The other number, which is 0 before, is a word to a power.
-    Other(u32, u32),
-    // How it compares with the other number.
-    Compares(Ordering),
     // Divided by a word, and the remainder, which is also asked for before.
     Divided(u32, u32),
     // A word, and the greatest common divisor of both.
@@ -55,18 +50,13 @@ fn change(number: &mut Natural, other: &mut Natural, step: &Step) -> Result<(), 
             std::mem::swap(number, other);
             Ok(())
         }
-        Step::Other(word, times) => {
-            other.add_word(1)?;
-            multiply(other, *word, *times)
-        }
         _ => Ok(()),
     }
 }
 
 // Whether a step that asks something has this answer.
-fn answers(number: &mut Natural, other: &Natural, step: &Step) -> bool {
+fn answers(number: &mut Natural, step: &Step) -> bool {
     match step {
-        Step::Compares(wanted) => number.compare(other) == *wanted,
         Step::Divided(word, rest) if *word > 0 => {
             number.remainder(*word) == *rest && number.divide(*word) == *rest
         }
@@ -86,7 +76,7 @@ fn is_so(
 ) -> Result<bool, AllocError> {
     for step in calculation.0 {
         change(number, other, step)?;
-        if !answers(number, other, step) {
+        if !answers(number, step) {
             return Ok(false);
         }
     }
@@ -95,7 +85,9 @@ fn is_so(
 
 impl Row<Global> for Calculation {
     fn holds(&self, alloc: &Global) -> bool {
-        let mut other = Natural::zero(*alloc);
+        let Ok(mut other) = Natural::from_word(*alloc, 0) else {
+            return false;
+        };
         match Natural::from_word(*alloc, 1) {
             Ok(mut number) => matches!(is_so(*alloc, &mut number, &mut other, self), Ok(true)),
             Err(_) => false,
@@ -147,20 +139,6 @@ const QUOTIENTS: &[Calculation] = table! { Calculation:
     (&[Step::Times(2, 64), Step::Divided(1, 0)], "18446744073709551616"),
 };
 
-// The second number is compared with the first.
-const ORDERS: &[Calculation] = table! { Calculation:
-    (&[Step::Times(0, 1), Step::Other(0, 1), Step::Compares(Ordering::Equal)], "0"),
-    (&[Step::Times(0, 1), Step::Other(1, 1), Step::Compares(Ordering::Less)], "0"),
-    (&[Step::Times(2, 32), Step::Other(2, 31), Step::Compares(Ordering::Greater)], "4294967296"),
-    (&[Step::Times(2, 64), Step::Other(4, 32), Step::Compares(Ordering::Equal)], "18446744073709551616"),
-    (&[Step::Times(3, 100), Step::Other(2, 158), Step::Compares(Ordering::Greater)],
-     "515377520732011331036461129765621272702107522001"),
-    (&[Step::Times(3, 100), Step::Other(2, 159), Step::Compares(Ordering::Less)],
-     "515377520732011331036461129765621272702107522001"),
-    (&[Step::Times(32767, 20), Step::Other(32766, 20), Step::Compares(Ordering::Greater)],
-     "2035793028633610800531729308038206330801905537538455803203973609054022273724384243833241601"),
-};
-
 const ZEROS: &[Calculation] = table! { Calculation:
     (&[Step::Times(0, 1), Step::IsZero(true)], "0"),
     (&[Step::Times(1, 1), Step::IsZero(false)], "1"),
@@ -184,7 +162,6 @@ fn numbers(rt: HostRuntime) {
     expect_rows(&rt, "sums", &rt.alloc(), SUMS);
     expect_rows(&rt, "sums with words", &rt.alloc(), WORD_SUMS);
     expect_rows(&rt, "quotients and remainders", &rt.alloc(), QUOTIENTS);
-    expect_rows(&rt, "orders", &rt.alloc(), ORDERS);
     expect_rows(&rt, "zeros", &rt.alloc(), ZEROS);
     expect_rows(&rt, "common divisors", &rt.alloc(), DIVISORS);
 }
@@ -198,6 +175,14 @@ enum Growth {
 
 const GROWTHS: &[Growth] = &[Growth::Multiplied, Growth::Doubled, Growth::Raised];
 
+// Whether two numbers have the same decimals.
+fn are_same(alloc: Global, number: &Natural, other: &Natural) -> Result<bool, AllocError> {
+    let (mut text, mut other_text) = (Vec::new(alloc), Vec::new(alloc));
+    number.write_decimals(alloc, &mut text)?;
+    other.write_decimals(alloc, &mut other_text)?;
+    Ok(text.as_slice() == other_text.as_slice())
+}
+
 // Whether a number that memory was refused is as it was.
 fn grows_or_stays(
     alloc: Global,
@@ -210,7 +195,7 @@ fn grows_or_stays(
         Growth::Doubled => number.add(&before),
         Growth::Raised => number.add_word(4_294_967_295),
     };
-    Ok(grown.is_ok() || number.compare(&before) == Ordering::Equal)
+    Ok(grown.is_ok() || are_same(alloc, number, &before)?)
 }
 
 fn grow_or_stay(alloc: Global, number: &mut Natural) -> Result<bool, AllocError> {
