@@ -10,17 +10,13 @@ use ptb_machine::{Line, Rules, run_laws};
 use ptb_text::{DeviceFault, Program, Write};
 use std::alloc::{AllocError, Global};
 
-/// The text of the table of a program's runs on these input lines, by these rules: each result that
-/// a run has, with the sum of the chances of its runs and their number.
-///
-/// Each answer of a question has the same chance. The result of a run is its ending and the last
-/// line that it showed. The chances of the table add up to 1. While the runs are counted, `watch` may
-/// show how far this is.
+/// The text of the table that [`write_chances`] writes. While the runs are counted, `watch` may show how far
+/// this is.
 ///
 /// # Errors
 ///
 /// Where a growth was refused memory.
-pub fn chances_text<W: Watch>(
+pub(crate) fn chances_text<W: Watch>(
     alloc: Global,
     program: &Program,
     lines: &[Line],
@@ -35,7 +31,12 @@ pub fn chances_text<W: Watch>(
     tally.text(alloc)
 }
 
-/// Writes the table that [`chances_text`] gives, while the writer watches.
+/// Writes the table of the chances of a program's runs on these input lines, by these rules: each result
+/// that a run has, with the sum of the chances of its runs and their number. While the runs are counted,
+/// the writer may show how far this is.
+///
+/// Each answer of a question has the same chance. The result of a run is its ending and the last line that
+/// it showed. The chances of the table add up to 1.
 ///
 /// # Errors
 ///

@@ -2,8 +2,9 @@
 //!
 //! It depends on `ptb_machine` for the runs, on `ptb_numbers` for numbers of any size, on
 //! `ptb_answers` and `ptb_text`, and on definitions of `ptb_command` and `ptb_devices`.
-//! The crate above may rely on `chances_text` and `write_chances` (the text of the table), on
-//! `chance_laws` and on `table_laws`. What watches how far a table is counted implements `Watch`.
+//! The crate above may rely on `write_chances` (a writer takes the table, or a prefix of it where it
+//! fails), on `chance_laws` and on `table_laws`. What watches how far a table is counted implements
+//! `Watch`.
 #![tactic(auto)]
 
 mod chances;
@@ -19,6 +20,6 @@ mod tally;
 mod watch;
 mod worklist;
 
-pub use chances::{chances_text, write_chances};
+pub use chances::write_chances;
 pub use laws::{chance_laws, table_laws};
-pub use watch::{Unwatched, Watch};
+pub use watch::Watch;

@@ -12,20 +12,6 @@ pub trait Watch {
     fn show(&self, waiting: usize, billionths: u32);
 }
 
-/// Watches nothing.
-///
-/// For users of the library: the program doesn't use it.
-#[derive(Drop)]
-pub struct Unwatched;
-
-impl Watch for Unwatched {
-    fn is_due(&self) -> bool {
-        false
-    }
-
-    fn show(&self, _waiting: usize, _billionths: u32) {}
-}
-
 // A device doesn't watch.
 impl<T> Watch for Device<T> {
     fn is_due(&self) -> bool {

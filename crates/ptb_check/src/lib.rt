@@ -2,9 +2,8 @@
 //!
 //! It depends on `ptb_machine`, `ptb_expr`, `ptb_text` and `itoa`, and on definitions of
 //! `ptb_command` and `ptb_answers`. The crate above may rely on `write_mistakes` (what
-//! is written for the mistakes of `specs/Mistakes`), on `mistake_of` (the mistake of a command, by
-//! its code), and on `check_laws` (a run that ends with a fault ends at a command that has none, or
-//! one of these mistakes).
+//! is written for the mistakes of `specs/Mistakes`), and on `check_laws` (a run that ends with a fault
+//! ends at a command that is well formed, or has one of these mistakes).
 #![tactic(auto)]
 
 mod laws;
@@ -12,5 +11,4 @@ mod mistake;
 mod writer;
 
 pub use laws::check_laws;
-pub use mistake::mistake_of;
 pub use writer::write_mistakes;

@@ -79,7 +79,7 @@ fn part_fail(steps: &[Step], operation: Operation) -> Option<Fault>
 
 /// The mistake of the command that was translated into this code, if it has one: the fault in its
 /// text, or that of a GOTO or a GOSUB to a written number that no statement has. Nothing is run.
-pub fn mistake_of(program: &Program, code: &CommandCode) -> Option<Fault>
+pub(crate) fn mistake_of(program: &Program, code: &CommandCode) -> Option<Fault>
     ensures { (t : List ℕ) (i : ℕ) → IsTranslated t i code.now
         → result ≡ command_mistake program.now.lines (command_at t i) }
 {

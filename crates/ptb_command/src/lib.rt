@@ -6,10 +6,10 @@
 //!
 //! It depends on `ptb_devices`, `ptb_expr`, `ptb_answers`, `ptb_text`, `arrayvec` and `itoa`. The crate
 //! above may rely on `translate` (the code is that of the parts that `specs/Commands` reads), on
-//! `next_command`, `first_place`, `place_after` and `start_of` (places are those of `specs/State`), on
-//! `command_laws` (how the parts of a command and the commands of a statement follow one another), on
-//! `Stack` and `SavedStack` (what is open, newest first), and on `Registers::execute`: a command does by
-//! its code what `specs/Act` says, or stops where that does. It may also rely on the parts of commands
+//! `next_command` and `start_of` (places are those of `specs/State`), on `command_laws` (how the parts of
+//! a command and the commands of a statement follow one another), on `Stack` (what is open, newest
+//! first), on `SavedRegisters` (registers in little memory), and on `Registers::execute`: a command does
+//! by its code what `specs/Act` says, or stops where that does. It may also rely on the parts of commands
 //! of which its short forms are made, `own_value` (the value of an expression that asks nothing),
 //! `place_after_condition` (where a run continues after an IF) and `end_newest_turn` (what a NEXT does
 //! to the newest loop), and on those of a report, `fault_line` (the line that names a fault) and `put`
@@ -50,11 +50,9 @@ pub use fault_words::fault_line;
 pub use location::Location;
 pub use operation::{Destination, Expression, Literal, Operation, Prompt, Range};
 pub use output::put;
-pub use pending_output::{PENDING_LIMIT, PendingOutput};
 pub use registers::Registers;
 pub use saved_registers::SavedRegisters;
-pub use saved_stack::SavedStack;
-pub use stack::{NESTING_LIMIT, OpenLoop, Stack};
-pub use statement_places::{first_place, is_zero, line_at, place_after, start_of};
+pub use stack::{OpenLoop, Stack};
+pub use statement_places::{line_at, start_of};
 pub use stop::CommandStop;
 pub use translation::translate;

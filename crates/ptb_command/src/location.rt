@@ -14,14 +14,14 @@ pub struct Location {
 impl Location {
     /// Whether another place is the same.
     #[tactic(auto, using(crate::proofs::Sameness::same_location))]
-    pub fn is_same(self, other: Location) -> bool
+    pub(crate) fn is_same(self, other: Location) -> bool
         ensures { IsTrue result ↔ (self ≡ other) }
     {
         self.statement == other.statement && self.at == other.at
     }
 
     /// A number that is the same for the same place. Others may have it, too.
-    pub fn hash(self) -> u64 {
+    pub(crate) fn hash(self) -> u64 {
         (self.statement as u64)
             .wrapping_mul(0x1_0000)
             .wrapping_add(self.at as u64)

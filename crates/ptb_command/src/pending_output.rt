@@ -12,7 +12,7 @@ use ptb_text::{ByteBuffer, DeviceFault};
 use std::marker::Model;
 
 /// How many bytes are gathered at most. An item of PRINT shows no more than 255.
-pub const PENDING_LIMIT: usize = 512;
+pub(crate) const PENDING_LIMIT: usize = 512;
 
 /// How many bytes are copied at once, where few are gathered.
 pub(crate) const BLOCK: usize = 16;
@@ -33,7 +33,7 @@ impl Model for PendingOutput {
 
 impl PendingOutput {
     /// Nothing is gathered yet.
-    pub fn new() -> Self
+    pub(crate) fn new() -> Self
         ensures { result ≡ [] }
     {
         PendingOutput {
@@ -42,7 +42,7 @@ impl PendingOutput {
     }
 
     /// The bytes that were gathered.
-    pub fn as_slice(&self) -> &[u8]
+    pub(crate) fn as_slice(&self) -> &[u8]
         ensures { result.now ≡ self.now }
     {
         self.buffer.as_slice()
@@ -129,7 +129,7 @@ impl PendingOutput {
 
     /// Takes bytes, if there is room for all of them. Whether there was.
     #[inline(always)]
-    pub fn try_append(&mut self, bytes: &[u8]) -> bool
+    pub(crate) fn try_append(&mut self, bytes: &[u8]) -> bool
         ensures taken { IsTrue result → self.new ≡ self.old ++ bytes.now }
         ensures full { IsFalse result → self.new ≡ self.old }
         ensures room { IsTrue result ↔ (length self.old + length bytes.now ≤ PENDING_LIMIT) }

@@ -10,7 +10,7 @@ use std::marker::Model;
 ///
 /// Contracts see them as a list, newest first.
 #[derive(Drop)]
-pub struct SavedStack {
+pub(crate) struct SavedStack {
     // newest last
     opens: Vec<Open>,
 }
@@ -29,7 +29,7 @@ impl Model for SavedStack {
 
 impl SavedStack {
     /// Nothing is open.
-    pub fn new(alloc: Global) -> SavedStack
+    pub(crate) fn new(alloc: Global) -> SavedStack
         ensures { result ≡ [] }
     {
         SavedStack {
@@ -42,7 +42,7 @@ impl SavedStack {
     /// # Errors
     ///
     /// Where they are refused memory. The contents are then unspecified.
-    pub fn save(&mut self, stack: &Stack) -> Result<(), AllocError>
+    pub(crate) fn save(&mut self, stack: &Stack) -> Result<(), AllocError>
         ensures { OnOk result (self.new ≡ stack.now) }
     {
         self.opens.clear();
@@ -50,7 +50,7 @@ impl SavedStack {
     }
 
     /// Whether another one has the same loops and calls.
-    pub fn is_same(&self, other: &SavedStack) -> bool
+    pub(crate) fn is_same(&self, other: &SavedStack) -> bool
         ensures { IsTrue result ↔ (self.now ≡ other.now) }
     {
         let opens = self.opens.as_slice();
@@ -59,14 +59,14 @@ impl SavedStack {
     }
 
     /// A number that is the same for those that hold the same. Others may have it, too.
-    pub fn hash(&self) -> u64 {
+    pub(crate) fn hash(&self) -> u64 {
         hash_of_opens(self.opens.as_slice())
     }
 }
 
 impl Stack {
     /// Replaces its loops and calls with those that were saved.
-    pub fn restore(&mut self, saved: &SavedStack)
+    pub(crate) fn restore(&mut self, saved: &SavedStack)
         ensures { self.new ≡ saved.now }
     {
         self.opens.clear();

@@ -11,7 +11,7 @@ use ptb_text::Letter;
 use std::marker::Model;
 
 /// How many loops and calls may be open together.
-pub const NESTING_LIMIT: usize = 256;
+pub(crate) const NESTING_LIMIT: usize = 256;
 
 /// An open FOR.
 // The place is the first field: after the smaller ones it would be copied together with the gap before
@@ -47,7 +47,7 @@ impl Default for Open {
     }
 }
 
-/// The loops and calls that are open, at most [`NESTING_LIMIT`] together.
+/// The loops and calls that are open, at most 256 together.
 ///
 /// Contracts see them as a list, newest first.
 #[derive(Drop)]
@@ -166,6 +166,8 @@ impl Stack {
     }
 
     /// Closes the newest loop or call, if one is open.
+    ///
+    /// Public so that tests can try it.
     pub fn close_newest(&mut self)
         ensures { ClosesNewest self.old self.new }
     {

@@ -1,7 +1,6 @@
 // This file finds the places of a program at which a run can continue.
 
 ghost use Rattle.std.specs.Prelude.{◌≡◌, ◌≤◌, [], Some, None, length, pos, slice_get};
-ghost use Rattle.std.specs.Ordering.{int_eq};
 ghost use Rattle.ptb_command.specs.Prelude.{text_limit, Place, first_place, place_after, text_of, statement, IsLineAt};
 ghost use Rattle.ptb_command.specs.Prelude.{PlacesAre};
 
@@ -23,7 +22,7 @@ pub fn line_at(program: &Program, statement: usize) -> (i16, &[u8])
 }
 
 /// The beginning of the first statement, if there is one.
-pub fn first_place(program: &Program) -> Option<Location>
+pub(crate) fn first_place(program: &Program) -> Option<Location>
     ensures { PlacesAre program.now.lines (first_place program.now.lines) result }
 {
     command_laws();
@@ -39,7 +38,7 @@ pub fn first_place(program: &Program) -> Option<Location>
 }
 
 /// The beginning of the statement after this one; none where there is no such statement.
-pub fn place_after(program: &Program, statement: usize) -> Option<Location>
+pub(crate) fn place_after(program: &Program, statement: usize) -> Option<Location>
     ensures following { (q : Place) →
         slice_get program.now.lines statement
         ≡ Some (q.number, text_of program.now.lines q.number) →
@@ -68,11 +67,4 @@ pub fn start_of(program: &Program, number: i16) -> Option<Location>
         Some(statement) => Some(Location { statement, at: 0 }),
         None => None,
     }
-}
-
-/// Whether a value is 0.
-pub fn is_zero(value: i16) -> bool
-    ensures { result ≡ int_eq value (pos 0) }
-{
-    value == 0
 }

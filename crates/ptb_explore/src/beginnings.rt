@@ -37,11 +37,9 @@ pub struct Beginnings<'a> {
 impl<'a> Model for Beginnings<'a> {
     ghost use Rattle.std.specs.Prelude.{[]};
     ghost use Rattle.std.specs.Coded.{codes};
-    ghost use Rattle.ptb_answers.specs.AskedQuestions.{answers_in, bounds_in};
     ghost use Rattle.ptb_answers.specs.contracts.rules.Rules as rules_type;
-    ghost use Rattle.ptb_explore.specs.Beginnings.{Splitting, stopped};
-    ghost use Rattle.ptb_explore.specs.Explorations.{AreCopiesAt, game_of};
-    ghost use Rattle.ptb_explore.specs.Plans.{IsPosition, front_at};
+    ghost use Rattle.ptb_explore.specs.Prelude.{answers_in, bounds_in, Splitting, stopped, AreCopiesAt, game_of};
+    ghost use Rattle.ptb_explore.specs.Prelude.{IsPosition, front_at};
 
     ghost Value = { Splitting };
 
@@ -98,6 +96,8 @@ impl<'a> Beginnings<'a> {
     ///
     /// Where a growth was refused memory, never where no list is left. The search is where it
     /// was then, and a further call looks for that list once more.
+    ///
+    /// Public so that tests can try it.
     pub fn next(&mut self) -> Result<bool, AllocError>
         ensures same { self.new ≡ record self.old { front = self.new.front } }
         ensures next { IfOk result (MovesTo (stopped self.old.most (split_play self.old))
@@ -126,6 +126,8 @@ impl<'a> Beginnings<'a> {
     }
 
     /// The answers of the list at which the search is, each with its bound.
+    ///
+    /// Public so that tests can try it.
     pub fn asked(&self) -> &[Asked]
         ensures answers { (u : Answers) → self.now.front ≡ At u → answers_in result.now ≡ u }
         ensures bounds { (u : Answers) → self.now.front ≡ At u

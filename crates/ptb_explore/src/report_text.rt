@@ -77,6 +77,8 @@ fn put_answers<W: Write>(
 }
 
 /// What the report of a run has.
+///
+/// Public so that tests can try how reports are written.
 #[derive(Clone, Copy)]
 pub struct Parts<'a> {
     /// How it has the answers.

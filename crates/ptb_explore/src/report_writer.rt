@@ -278,6 +278,8 @@ fn add_figures(text: &mut Text, word: &[u8], steps: u32, size: usize)
 ///
 /// It has the text of the last report that was short, and the first items of its header. Of a
 /// report that begins with some of these items, only what comes after them is made again.
+///
+/// Public so that tests can try it.
 #[derive(Drop)]
 pub struct ReportWriter {
     // The first items of the header.

@@ -30,6 +30,7 @@ pub use fault::{Fault, FaultKind, Stop};
 pub use laws::{code_laws, mark_laws, spelling_laws, value_laws};
 pub use operator::Operator;
 pub use plain_values::{plain_value, single_value};
+// No crate of the program imports these from here: they are for users of the library who evaluate expressions.
 pub use ptb_answers::{Chooser, Listed, Pause, Seeded};
 pub use saved_store::SavedStore;
 pub use short_value::ShortValue;

@@ -44,7 +44,7 @@ pub fn run<C: Chooser, S: Screen, L: LineSource>(
 /// # Errors
 ///
 /// As [`run`].
-pub fn run_to_end<C: Chooser, S: Screen, L: LineSource>(
+pub(crate) fn run_to_end<C: Chooser, S: Screen, L: LineSource>(
     alloc: Global,
     program: &Program,
     rules: Rules,

@@ -77,6 +77,8 @@ fn put_joined<S: Screen>(
 ///
 /// [`DeviceFault`] where the screen could not be written. A prefix of the report may have been
 /// shown then.
+///
+/// Public so that tests can try it.
 pub fn report<S: Screen>(
     screen: &mut S,
     fresh: &mut bool,

@@ -8,9 +8,8 @@
 //! turn of `specs/Play`: the state after it, what it shows, the lines and answers it takes), on
 //! `Player::step` (the same by the code of the program; it reads the text of a command only if the
 //! command has no code), on `Player::advance` (some turns that touch no device), on `run` (all
-//! turns), on `run_to_end` (the same, and the line at which a limit stopped it), on `run_plain` and
-//! `run_seeded` (a run with a list of answers, or with those of a seed: its bytes and its ending,
-//! what is read of its input, and which fault it was), on `run_plain_to_end` and
+//! turns), on `run_plain` and `run_seeded` (a run with a list of answers, or with those of a seed: its
+//! bytes and its ending, what is read of its input, and which fault it was), on `run_plain_to_end` and
 //! `run_seeded_to_end` (the same, and the line at which a limit stopped the run), on `seeded_laws`
 //! (what a seed draws), on `SavedMachine` (where a machine is, in little memory, to which it can be
 //! restored), on `run_laws` (answers are taken one by one, a limited number of them), on
@@ -34,7 +33,7 @@ mod saved_machine;
 mod short_forms;
 mod stop_result;
 
-pub use complete_run::{run, run_to_end};
+pub use complete_run::run;
 pub use ending_word::word;
 pub use fault::{RunFault, memory_refusal};
 pub use fault_report::report;
@@ -48,8 +47,9 @@ pub use ptb_command::{
     CommandCode, Destination, Ending, Operation, command_laws, fault_line, line_at, start_of,
     translate,
 };
-pub use ptb_devices::{Line, Lines, ReaderLines, TextScreen, WriterScreen, read_lines};
-// No crate of the program imports these two: they are for users of the library who have devices of their own.
-pub use ptb_devices::{LineSource, Screen};
+pub use ptb_devices::{Line, Lines, TextScreen, read_lines};
+// No crate of the program imports these: they are for users of the library who run programs on devices of their
+// own.
+pub use ptb_devices::{LineSource, ReaderLines, Screen, WriterScreen};
 pub use run_end::RunEnd;
 pub use saved_machine::SavedMachine;

@@ -14,7 +14,7 @@ use std::marker::Model;
 /// A list of items that are answers to RND. A list that was read from a text has numbers from 1 to
 /// 32767; the type holds any.
 ///
-/// [`From`] makes it of a `Vec`, and [`ItemList::into_vec`] returns that; neither takes memory.
+/// [`From`] makes it of a `Vec`, and takes no memory.
 #[derive(Drop)]
 pub struct ItemList<T> {
     items: Vec<T>,
@@ -39,15 +39,6 @@ impl<T> ItemList<T> {
     {
         &self.items
     }
-
-    /// The `Vec` that the list was made from.
-    ///
-    /// For users of the library: the program doesn't call it.
-    pub fn into_vec(self) -> Vec<T>
-        ensures { result.items ≡ self }
-    {
-        self.items
-    }
 }
 
 impl<T> From<Vec<T>> for ItemList<T> {
@@ -66,8 +57,13 @@ impl<T> From<Vec<T>> for ItemList<T> {
 ///
 /// [`UsageFault::BadList`] where the text spells no list; [`UsageFault::Memory`] where a growth was
 /// refused memory, and only for a list that has items.
-pub fn parse_list(alloc: Global, text: &str) -> Result<MarkedAnswers, UsageFault>
-    ensures { IsListRead (SpellsList text.now) result }
+pub(crate) fn parse_list(alloc: Global, text: &str) -> Result<MarkedAnswers, UsageFault>
+    ensures ok { IfOk result (SpellsList text.now) }
+    ensures bad { result ≡ Err UsageFault.BadList → IsMisspelled text.now }
+    ensures memory { result ≡ Err UsageFault.Memory
+        → (list : List Marked) × SpellsList text.now list × (list ≢ []) }
+    ensures fault { IfErr result IsListFault }
+    ensures one { (a b : List Marked) → SpellsList text.now a → SpellsList text.now b → a ≡ b }
 {
     parse_as::<Marked>(alloc, text, Bounds::Allowed)
 }
@@ -78,8 +74,13 @@ pub fn parse_list(alloc: Global, text: &str) -> Result<MarkedAnswers, UsageFault
 ///
 /// [`UsageFault::BadList`] where the text spells no such list; [`UsageFault::Memory`] where a growth
 /// was refused memory, and only for a list that has items.
-pub fn parse_answers(alloc: Global, text: &str) -> Result<PlainAnswers, UsageFault>
-    ensures { IsListRead (SpellsAnswers text.now) result }
+pub(crate) fn parse_answers(alloc: Global, text: &str) -> Result<PlainAnswers, UsageFault>
+    ensures ok { IfOk result (SpellsAnswers text.now) }
+    ensures bad { result ≡ Err UsageFault.BadList → HasNoAnswers text.now }
+    ensures memory { result ≡ Err UsageFault.Memory
+        → (a : List ℤ) × SpellsAnswers text.now a × (a ≢ []) }
+    ensures fault { IfErr result IsListFault }
+    ensures one { (a b : List ℤ) → SpellsAnswers text.now a → SpellsAnswers text.now b → a ≡ b }
 {
     parse_as::<i16>(alloc, text, Bounds::Refused)
 }

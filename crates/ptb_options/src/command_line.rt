@@ -20,7 +20,7 @@ use std::convert::AsStr;
 /// # Errors
 ///
 /// [`AllocError`] where a growth was refused memory.
-pub fn command<'a>(alloc: Global) -> Result<Command<'a>, AllocError>
+pub(crate) fn command<'a>(alloc: Global) -> Result<Command<'a>, AllocError>
     ensures { IfOk result (λ c. app_of c ≡ tool) }
 {
     let mut command = Command::new(alloc, "ptb")

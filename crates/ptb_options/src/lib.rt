@@ -17,10 +17,10 @@ mod request;
 mod usage;
 mod wrong_numbers;
 
-pub use answers::{ItemList, MarkedAnswers, PlainAnswers, parse_answers, parse_list};
-pub use command_line::{command, parse, refusal_status};
+pub use answers::{ItemList, MarkedAnswers, PlainAnswers};
+pub use command_line::{parse, refusal_status};
 pub use decision::{decide, misspelled_list};
-pub use mistakes::{Bounds, ItemFault, ListMistake, ListOption, MisspelledList, list_mistake};
-pub use request::{DEFAULT_MEMORY, DEFAULT_STEPS, Mode, Request};
+pub use mistakes::{ItemFault, ListMistake, ListOption, MisspelledList};
+pub use request::{Mode, Request};
 pub use usage::UsageFault;
 pub use wrong_numbers::{NumberOption, WrongNumber, wrong_number};

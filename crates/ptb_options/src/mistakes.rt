@@ -9,8 +9,8 @@ use std::fmt;
 use thiserror::Error;
 
 /// Whether the items of a list may have bounds.
-#[derive(Clone, Copy, Debug, PartialEq, Eq)]
-pub enum Bounds {
+#[derive(Clone, Copy)]
+pub(crate) enum Bounds {
     /// An item is a number, or a number with its bound, as `2/6`.
     Allowed,
     /// An item is a number alone.
@@ -78,7 +78,7 @@ pub struct MisspelledList<'a> {
 
 /// The first faulty item of a text that spells no list, and `None` where it spells one. Items are the
 /// texts between commas.
-pub fn list_mistake(text: &str, bounds: Bounds) -> Option<ListMistake<'_>>
+pub(crate) fn list_mistake(text: &str, bounds: Bounds) -> Option<ListMistake<'_>>
     ensures none { result ≡ None → IsListOf bounds text.entry.now }
     ensures some { IfSome result (IsListMistake bounds text.entry.now) }
 {

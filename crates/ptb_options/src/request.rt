@@ -6,10 +6,10 @@ use crate::answers::{MarkedAnswers, PlainAnswers};
 use ptb_answers::{Form, Rules};
 
 /// The most commands that a run begins, where `--steps` is left out.
-pub const DEFAULT_STEPS: u32 = 10_000;
+pub(crate) const DEFAULT_STEPS: u32 = 10_000;
 
 /// The memory that the program is given, where `--memory` is left out.
-pub const DEFAULT_MEMORY: u16 = 4096;
+pub(crate) const DEFAULT_MEMORY: u16 = 4096;
 
 /// What is done with the program.
 #[derive(Drop)]

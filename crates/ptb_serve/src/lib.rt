@@ -26,5 +26,6 @@ pub use laws::reply_laws;
 pub use list_mismatch::ListMismatch;
 pub use note::Note;
 pub use ptb_chances::Watch;
-pub use ptb_machine::{run_plain, run_plain_to_end, run_seeded, run_seeded_to_end};
+// No crate of the program imports these two from here: they are for users of the library who serve no request.
+pub use ptb_machine::{run_plain, run_seeded};
 pub use service::{Outcome, serve};

@@ -40,7 +40,6 @@ pub use laws::statement_laws;
 pub use letter::Letter;
 pub use listing::list;
 pub use loader::{load, split_line};
-pub use numerals::{is_all_blank, number_in_front};
 pub use output_buffer::OutputBuffer;
 pub use program::Program;
 pub use word::{Number, Quoted, Table, Word};

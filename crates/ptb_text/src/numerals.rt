@@ -154,7 +154,7 @@ fn leading_digits(text: &[u8]) -> (u32, usize)
 ///
 /// As [`Cursor::number`] at place 0: a number over 32767 is passed too, and where there is no digit
 /// the place is 0.
-pub fn number_in_front(text: &[u8]) -> (Number, usize)
+pub(crate) fn number_in_front(text: &[u8]) -> (Number, usize)
     ensures value { number_at text.now 0 ≡ (result.0, result.1) }
     ensures within { result.1 ≤ length text.now }
 {
@@ -171,7 +171,7 @@ pub fn number_in_front(text: &[u8]) -> (Number, usize)
 }
 
 /// Whether a text of any length has nothing but blanks.
-pub fn is_all_blank(text: &[u8]) -> bool
+pub(crate) fn is_all_blank(text: &[u8]) -> bool
     ensures { result ≡ is_over text.now 0 }
 {
     after_blanks(text, 0).0 == text.len()

@@ -1,7 +1,8 @@
 // This file tries the cursor at texts whose words, tokens, numbers and strings are known.
 
 use crate::tests::shared::{Row, expect_rows, expect_same, table};
-use ptb_text::{Cursor, Letter, Number, Quoted, Table, Word, is_all_blank, number_in_front};
+use ptb_text::{Cursor, Letter, LoadFault, Number, Program, Quoted, Table, Word};
+use std::alloc::Global;
 
 // What is looked for at a place of a text, and what is found there.
 enum Find {
@@ -102,19 +103,40 @@ const LETTERS: &[Found] = table! { Found:
     ("", 0, Find::Letter(None), 0),
 };
 
-// A text, the number in front of it, and the place after that; both are found with a cursor and without.
+// A text, the number in front of it, and the place after that; a cursor finds both, and so does a program in
+// which the text is entered as a line.
 struct InFront(&'static str, Number, usize);
 
-impl Row<()> for InFront {
-    fn holds(&self, _context: &()) -> bool {
-        let InFront(text, number, after) = *self;
-        if text.len() > 255 {
+// Whether a line has this number in front of this text. A number without a text deletes its statement.
+fn is_entered(alloc: Global, line: &str, number: Number, text: &[u8]) -> bool {
+    let mut program = Program::new(alloc, 4096);
+    let entered = program.enter(line.as_bytes());
+    match number {
+        Number::Value(value) if value > 0 => {
+            let wanted = if text.is_empty() { None } else { Some(text) };
+            entered == Ok(()) && program.line(value) == wanted
+        }
+        Number::TooBig => entered == Err(LoadFault::NumberTooBig),
+        Number::Absent if line.is_empty() => entered == Ok(()) && program.is_empty(),
+        _ => entered == Err(LoadFault::NoNumber),
+    }
+}
+
+impl Row<Global> for InFront {
+    fn holds(&self, alloc: &Global) -> bool {
+        let InFront(line, number, after) = *self;
+        if line.len() > 255 {
             return false;
         }
-        let mut cursor = Cursor::new(text.as_bytes(), 0);
-        cursor.number() == number
-            && cursor.place() == after
-            && number_in_front(text.as_bytes()) == (number, after)
+        let mut cursor = Cursor::new(line.as_bytes(), 0);
+        match line.as_bytes().get(after..) {
+            Some(text) => {
+                cursor.number() == number
+                    && cursor.place() == after
+                    && is_entered(*alloc, line, number, text)
+            }
+            None => false,
+        }
     }
 }
 
@@ -153,14 +175,16 @@ impl Row<()> for Digits {
 
 const DIGITS: &[Digits] = &[Digits(b'9', Number::TooBig), Digits(b'0', Number::Value(0))];
 
-// Whether a text of any length may be asked for the number in front of it.
-fn are_long_blanks_passed() -> bool {
-    let mut text = [b' '; 300];
-    if !is_all_blank(&text) || number_in_front(&text) != (Number::Absent, 0) {
+// Whether a line of blanks enters nothing, whatever its length, and a number may come after as many blanks.
+fn are_long_blanks_passed(alloc: Global) -> bool {
+    let mut program = Program::new(alloc, 4096);
+    let mut line = [b' '; 300];
+    if program.enter(&line) != Ok(()) || !program.is_empty() {
         return false;
     }
-    text[290] = b'7';
-    !is_all_blank(&text) && number_in_front(&text) == (Number::Value(7), 300)
+    line[290] = b'7';
+    line[299] = b'A';
+    program.enter(&line) == Ok(()) && program.line(7) == Some(b"A".as_slice())
 }
 
 // A byte, and how many letters are before it, if it is one.
@@ -238,7 +262,7 @@ fn finds_what_is_there(rt: HostRuntime) {
     expect_rows(&rt, "words", &(), WORDS);
     expect_rows(&rt, "tokens", &(), TOKENS);
     expect_rows(&rt, "letters", &(), LETTERS);
-    expect_rows(&rt, "numbers", &(), NUMBERS);
+    expect_rows(&rt, "numbers", &rt.alloc(), NUMBERS);
     expect_rows(&rt, "digits", &(), DIGITS);
     expect_rows(&rt, "strings", &(), STRINGS);
     expect_rows(&rt, "bytes", &(), BYTES);
@@ -249,7 +273,7 @@ fn finds_what_is_there(rt: HostRuntime) {
         Letter::new(b'A') != Letter::new(b'B'),
         true,
     );
-    expect_same(&rt, "long blanks", are_long_blanks_passed(), true);
+    expect_same(&rt, "long blanks", are_long_blanks_passed(rt.alloc()), true);
     expect_same(&rt, "a byte is taken", is_taken(), true);
     expect_same(&rt, "spaced bytes are taken", are_spaced_taken(), true);
 }

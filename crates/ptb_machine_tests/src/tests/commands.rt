@@ -5,8 +5,8 @@ use crate::tests::shared::{
     fault, letter, lines_of, nothing, numbers, with_line,
 };
 use ptb_command::{
-    CommandStop, Location, OpenLoop, Output, Registers, SavedRegisters, Stack, first_place,
-    is_zero, next_command, place_after, put,
+    CommandStop, Context, Location, OpenLoop, Output, Registers, SavedRegisters, Stack,
+    next_command, place_after_condition, put,
 };
 use ptb_devices::TextScreen;
 use ptb_expr::Store;
@@ -340,6 +340,7 @@ const CHANGES: &[(&str, Change, Likeness)] = &[
     ("nothing", (Some((0, 0)), 7, false), ALIKE),
     ("no place", (None, 7, false), UNLIKE),
     ("another place", (Some((0, 1)), 7, false), UNLIKE),
+    ("another statement", (Some((1, 0)), 7, false), UNLIKE),
     ("another value", (Some((0, 0)), 8, false), UNLIKE),
     ("a loop", (Some((0, 0)), 7, true), UNLIKE),
     ("all of these", (None, 8, true), UNLIKE),
@@ -399,29 +400,27 @@ fn expect_restored(
     expect_eq(rt, "restored", likeness(alloc, registers, copy), ALIKE);
 }
 
-// A place, and whether it is byte 2 of statement 1.
-const PLACES: &[(usize, usize, bool)] = &[(1, 2, true), (2, 2, false), (1, 3, false)];
-
-#[test]
-fn same_places(rt: HostRuntime) {
-    let place = Location {
-        statement: 1,
-        at: 2,
-    };
-    for &(statement, at, same) in PLACES {
-        let other = Location { statement, at };
-        expect_eq(&rt, "same", place.is_same(other), same);
-        expect_eq(&rt, "hash", place.hash() == other.hash(), same);
-    }
-}
-
-// The statements of a program of two lines, and one after them: the place after it, its number and
-// its text.
+// The statements of a program of two lines, and one after them: the place after it, where a condition in
+// it is 0, its number and its text.
 const STATEMENTS: &[(usize, Option<(usize, usize)>, i16, &[u8])] = &[
     (0, Some((1, 0)), 10, b"A=1"),
     (1, None, 20, b"B=1"),
     (2, None, 0, b""),
 ];
+
+// The value of a condition that ends at byte 3 of the first statement, and where a run continues.
+const CONDITIONS: &[(i16, (usize, usize))] = &[(0, (1, 0)), (1, (0, 3)), (-1, (0, 3))];
+
+// Where a run continues after a condition of this value in a statement, if it ends at byte 3.
+fn place_after(program: &Program, statement: usize, condition: i16) -> Option<(usize, usize)> {
+    let context = Context {
+        program,
+        statement,
+        operations: &[],
+        steps: &[],
+    };
+    numbers(place_after_condition(&context, condition, 3))
+}
 
 // Where the line of a number begins, if there is one.
 const BEGINNINGS: &[(i16, Option<(usize, usize)>)] = &[
@@ -435,7 +434,7 @@ const BEGINNINGS: &[(i16, Option<(usize, usize)>)] = &[
 fn places(rt: HostRuntime) {
     let program = program(rt.alloc(), b"20 B=1", b"10 A=1").expect(&rt, "memory");
     for &(statement, after, number, text) in STATEMENTS {
-        let place = numbers(place_after(&program, statement));
+        let place = place_after(&program, statement, 0);
         let (found, line) = line_at(&program, statement);
         expect_eq(
             &rt,
@@ -444,14 +443,23 @@ fn places(rt: HostRuntime) {
             (after, number, text),
         );
     }
+    for &(condition, place) in CONDITIONS {
+        let found = place_after(&program, 0, condition);
+        expect_eq(
+            &rt,
+            "condition",
+            (condition, found),
+            (condition, Some(place)),
+        );
+    }
     for &(number, place) in BEGINNINGS {
         expect_eq(&rt, "line", numbers(start_of(&program, number)), place);
     }
 }
 
-// Where the first command of a program begins: in which statement, and after how many bytes.
-fn first_command(program: &Program) -> Option<(usize, usize)> {
-    let place = first_place(program);
+// Where the command that is next at a place of a program begins: in which statement, and after how many
+// bytes.
+fn first_command(program: &Program, place: Option<Location>) -> Option<(usize, usize)> {
     match next_command(program, place) {
         Some((statement, cursor)) => Some((statement, cursor.place())),
         None => None,
@@ -471,7 +479,8 @@ const FIRST_COMMANDS: &[FirstCommand] = &[
 // The first command of a program is there.
 fn expect_first_command(rt: &impl Abort, alloc: Global, (line, other, want): FirstCommand) {
     let program = program(alloc, line.as_bytes(), other).expect(rt, "memory");
-    let found = (numbers(first_place(&program)), first_command(&program));
+    let place = Registers::new(alloc, &program).expect(rt, "memory").place;
+    let found = (numbers(place), first_command(&program, place));
     expect_eq(rt, line, found, (want, want));
 }
 
@@ -480,16 +489,6 @@ fn first_commands(rt: HostRuntime) {
     for &row in FIRST_COMMANDS {
         expect_first_command(&rt, rt.alloc(), row);
     }
-}
-
-#[test]
-fn zeros(rt: HostRuntime) {
-    expect_eq(
-        &rt,
-        "zeros of 0, 1 and -1",
-        (is_zero(0), is_zero(1), is_zero(-1)),
-        (true, false, false),
-    );
 }
 
 // Bytes that are shown, and whether a transcript is fresh before and after them.

@@ -3,7 +3,8 @@
 use crate::tests::shared::{Counted, expect_eq, loaded, plain_rules, rules_with, table};
 use ptb_expr::Listed;
 use ptb_machine::{
-    Ending, Lines, ReaderLines, Rules, RunEnd, RunFault, TextScreen, WriterScreen, run, run_to_end,
+    Ending, Lines, ReaderLines, Rules, RunEnd, RunFault, TextScreen, WriterScreen, run,
+    run_plain_to_end,
 };
 use ptb_text::{Device, Program};
 use std::alloc::Global;
@@ -204,11 +205,11 @@ const STOPS: &[(&str, u32, Ending, Option<u16>)] = &[
 // How a run without input or answers ends, and where.
 fn end_of(rt: &impl Abort, alloc: Global, text: &str, limit: u32) -> Result<RunEnd, RunFault> {
     let program = loaded(rt, alloc, text.as_bytes());
-    let mut list = Listed::new(&[]);
-    let mut screen = TextScreen::new(alloc);
-    let mut input = Lines::new(&[]);
+    let mut input = Device::new(&b""[..]);
+    let mut shown = Vec::new(alloc);
+    let mut out = Device::new(&mut shown);
     let rules = plain_rules(limit);
-    run_to_end(alloc, &program, rules, &mut list, &mut screen, &mut input)
+    run_plain_to_end(alloc, &program, &[], rules, &mut input, &mut out)
 }
 
 // Where the limit stops a run: in the statement in which its next command begins.

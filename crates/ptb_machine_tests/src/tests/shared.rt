@@ -4,9 +4,7 @@ ghost use Rattle.std.specs.Prelude.{◌≡◌, None, Ok, IsTrue};
 ghost use Rattle.ptb_text.specs.Statements.{program};
 ghost use Rattle.ptb_text.specs.Words.{is_letter};
 
-use ptb_command::{
-    CommandIo, CommandStop, Context, Location, Output, Registers, Stack, first_place,
-};
+use ptb_command::{CommandIo, CommandStop, Context, Location, Output, Registers};
 use ptb_devices::{Line, Lines, Screen, WriterScreen};
 use ptb_expr::{Listed, Pause, Store};
 use ptb_machine::{CommandCode, Rules, line_at, translate};
@@ -183,11 +181,8 @@ pub(crate) fn with_line(
     program.enter(b"20 STOP").expect(rt, "a line");
     let mut store = Store::new(alloc, 54).expect(rt, "memory");
     store.set(letter(b'A'), a);
-    let registers = Registers {
-        place: first_place(&program),
-        store,
-        stack: Stack::new(),
-    };
+    let mut registers = Registers::new(alloc, &program).expect(rt, "memory");
+    registers.store = store;
     (program, registers)
 }
 

@@ -3,9 +3,10 @@
 use crate::tests::shared::{
     ALIKE, Likeness, SAME_HASH, UNLIKE, compared, expect_eq, letter, numbers,
 };
-use ptb_command::{Location, NESTING_LIMIT, OpenLoop, SavedStack, Stack};
+use ptb_command::{Location, OpenLoop, Registers, SavedRegisters, Stack};
+use ptb_expr::Store;
 use ptb_text::Letter;
-use std::alloc::Global;
+use std::alloc::{AllocError, Global};
 use std::process::Abort;
 
 // What is opened: `(` for a call, or the letter of a loop; to where it leads back, its limit and its
@@ -51,11 +52,20 @@ fn changed(script: &str) -> (Stack, bool) {
     (stack, last)
 }
 
+// Registers that have what is open, and nothing else.
+fn registers_with(alloc: Global, stack: &Stack) -> Result<Registers, AllocError> {
+    Ok(Registers {
+        place: None,
+        store: Store::new(alloc, 0)?,
+        stack: stack.copy(),
+    })
+}
+
 // Whether two of them hold the same.
 fn likeness(alloc: Global, one: &Stack, other: &Stack) -> Likeness {
-    let (mut first, mut second) = (SavedStack::new(alloc), SavedStack::new(alloc));
-    first.save(one)?;
-    second.save(other)?;
+    let (mut first, mut second) = (SavedRegisters::new(alloc), SavedRegisters::new(alloc));
+    first.save(&registers_with(alloc, one)?)?;
+    second.save(&registers_with(alloc, other)?)?;
     compared!(first, second)
 }
 
@@ -107,6 +117,15 @@ const CHANGES: &[Change] = &[
     ("A(-", true, "A", ALIKE),
 ];
 
+// How alike what is open is to what it was, after registers with something else open were restored.
+fn restored_likeness(alloc: Global, other: &Stack, was: &Stack) -> Likeness {
+    let mut saved = SavedRegisters::new(alloc);
+    saved.save(&registers_with(alloc, was)?)?;
+    let mut registers = registers_with(alloc, other)?;
+    registers.restore(alloc, &saved)?;
+    likeness(alloc, &registers.stack, was)
+}
+
 // A copy has what was open, whatever is opened later. Whatever is open in a stack, it takes over what
 // a copy has, or what was saved, and keeps nothing of its own.
 fn expect_copies(rt: &impl Abort, alloc: Global, script: &str, other: &str) {
@@ -118,10 +137,7 @@ fn expect_copies(rt: &impl Abort, alloc: Global, script: &str, other: &str) {
     expect_eq(rt, script, likeness(alloc, &two, &one), ALIKE);
     two.copy_from(&copy);
     expect_eq(rt, other, likeness(alloc, &two, &changed(other).0), ALIKE);
-    let mut saved = SavedStack::new(alloc);
-    saved.save(&one).expect(rt, "memory");
-    two.restore(&saved);
-    expect_eq(rt, script, likeness(alloc, &two, &one), ALIKE);
+    expect_eq(rt, script, restored_likeness(alloc, &two, &one), ALIKE);
 }
 
 // After changes and other changes this is so.
@@ -158,7 +174,7 @@ const LAST_ROOM: &[(u8, bool)] = &[
 #[test]
 fn room(rt: HostRuntime) {
     let mut stack = Stack::new();
-    for _ in 1..NESTING_LIMIT {
+    for _ in 1..256 {
         expect_eq(&rt, "call", change(&mut stack, b'('), true);
     }
     for &(byte, done) in LAST_ROOM {

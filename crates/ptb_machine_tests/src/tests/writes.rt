@@ -4,7 +4,7 @@ use crate::tests::shared::{
     Counted, Doing, NO_ANSWER, Offer, UNWRITTEN, doing, done, expect_eq, fault, lines_of, table,
     with_line,
 };
-use ptb_command::{CommandStop, Output, PENDING_LIMIT, PendingOutput, Registers};
+use ptb_command::{CommandStop, Output, Registers};
 use ptb_devices::{Line, WriterScreen};
 use ptb_text::{Device, Program};
 use std::alloc::Global;
@@ -50,6 +50,12 @@ const WRITES: &[Row] = table! {
     ("10 P.#255,1,#252,1,#6,-32767-1,", (&[], &[], 9), Ok((0, 28)), (b"", b"1-32768", 513), 7),
     ("10 P.#255,1,#2,1,#255,1,", (&[], &[], 9), Ok((0, 21)), (b"", b"   1", 512), 8),
     ("10 P.#255,1,#3,1,#255,1,", (&[], &[], 9), Ok((0, 21)), (b"", b"   1", 513), 7),
+    // strings that are gathered as long as there is room in 512 bytes
+    ("10 P.#255,1,1,'AB',", (&[], &[], 9), Ok((0, 16)), (b"  ", b"1AB", 512), 8),
+    ("10 P.#255,1,1,'ABC',", (&[], &[], 9), Ok((0, 17)), (b"  ", b"1ABC", 513), 7),
+    ("10 P.#255,1,1,'A','B',", (&[], &[], 9), Ok((0, 19)), (b"  ", b"1AB", 512), 8),
+    ("10 P.#255,1,1,'AB','C',", (&[], &[], 9), Ok((0, 20)), (b"  ", b"1ABC", 513), 7),
+    ("10 P.#255,1,1,'AB','',", (&[], &[], 9), Ok((0, 19)), (b"  ", b"1AB", 512), 8),
     // what INPUT shows
     ("10 IN.A", (&[b"5"], &[], 5), Ok((0, 4)), (b"A:5\n", b"", 4), 4),
     ("10 IN.'N'A,B", (&[b"1", b"2"], &[], 5), Ok((0, 9)), (b"N:1\nB:2\n", b"", 8), 4),
@@ -118,35 +124,5 @@ fn writes(rt: HostRuntime) {
     let mut output = Output::new();
     for &row in WRITES {
         expect_written(&rt, rt.alloc(), &mut output, row);
-    }
-}
-
-// Bytes after so many that were gathered: whether there is room for them, and how many bytes are
-// gathered then.
-const GATHERED: &[(usize, &[u8], bool, usize)] = &[
-    (0, b"", true, 0),
-    (0, b"123456", true, 6),
-    (506, b"123456", true, 512),
-    (507, b"123456", false, 507),
-    (511, b"1", true, 512),
-    (512, b"1", false, 512),
-    (512, b"", true, 512),
-];
-
-// These bytes are gathered so.
-fn expect_gathered(rt: &impl Abort, (before, bytes, room, count): (usize, &[u8], bool, usize)) {
-    let mut pending = PendingOutput::new();
-    let filler = [b'#'; PENDING_LIMIT];
-    let filled = pending.try_append(filler.get(..before).unwrap_or(b""));
-    let taken = pending.try_append(bytes);
-    let gathered = pending.as_slice();
-    let found = (filled, taken, gathered.len(), gathered.ends_with(bytes));
-    expect_eq(rt, "bytes", found, (true, room, count, room));
-}
-
-#[test]
-fn bytes_that_are_gathered(rt: HostRuntime) {
-    for &row in GATHERED {
-        expect_gathered(&rt, row);
     }
 }

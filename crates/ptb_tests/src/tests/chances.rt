@@ -1,11 +1,10 @@
 // This file tests tables of chances, also with writers that fail and where memory is refused.
 
-use crate::tests::shared::{Row, expect_rows, loaded, rules, table};
+use crate::tests::shared::{expect_rows, rules, table};
 use crate::tests::writing::{Source, Writing, Written, expect_begun};
-use ptb_chances::{Unwatched, chances_text, write_chances};
+use ptb_chances::write_chances;
 use ptb_explore::ExploreFault;
 use ptb_text::{Device, DeviceFault};
-use std::alloc::Global;
 use std::test::Fail;
 
 // The most commands of a run, and the bound for answers instead of lines. A table is one item: where
@@ -64,31 +63,10 @@ CHANCE 1/5 1 STOP 1\n1\nCHANCE 1/5 1 STOP 1\n2\nCHANCE 1/5 1 STOP 1\n3\n"]),
      &["CHANCE 1/2 1 END 1\n8\nCHANCE 1/2 1 END 1\n9\n"]),
 };
 
-// The text of the table of a row.
-#[derive(Clone, Copy)]
-struct Text<'a>(&'a Written<Table>);
-
-impl Row<Global> for Text<'_> {
-    fn holds(&self, alloc: &Global) -> bool {
-        let Written(text, input, Table(limit, choose), items) = *self.0;
-        let Ok((program, lines)) = loaded(*alloc, text, input) else {
-            return false;
-        };
-        match chances_text(*alloc, &program, &lines, rules(limit, choose), &Unwatched) {
-            Ok(text) => matches!(items, [table] if table.as_bytes() == text.as_slice()),
-            Err(_) => false,
-        }
-    }
-}
-
 #[test]
 fn writes_tables(rt: HostRuntime) {
     expect_rows(&rt, "tables", &rt.alloc(), ROWS);
     expect_rows(&rt, "a roll in two", &rt.alloc(), &[ROLL_IN_TWO]);
-    expect_rows(&rt, "its text", &rt.alloc(), &[Text(&ROLL_IN_TWO)]);
-    for row in ROWS {
-        expect_rows(&rt, row.0, &rt.alloc(), &[Text(row)]);
-    }
 }
 
 // Passes whichever of its allocations is refused: nothing is written then.

@@ -7,8 +7,8 @@ use crate::tests::shared::{
 use clap::error::ErrorKind;
 use ptb_explore::{Form, Marked};
 use ptb_options::{
-    Bounds, ItemFault, ListMistake, MarkedAnswers, Mode, PlainAnswers, Request, UsageFault, decide,
-    list_mistake, misspelled_list, parse, parse_answers, parse_list, refusal_status, wrong_number,
+    ItemFault, ListMistake, ListOption, MarkedAnswers, MisspelledList, Mode, PlainAnswers, Request,
+    UsageFault, decide, misspelled_list, parse, refusal_status, wrong_number,
 };
 use std::alloc::{AllocError, Global};
 use std::process::Abort;
@@ -396,39 +396,51 @@ fn are_options_refused(alloc: Global, text: &str) -> Result<bool, AllocError> {
 
 impl Row<Global> for NoList {
     fn holds(&self, alloc: &Global) -> bool {
-        let bad = Some(UsageFault::BadList);
-        parse_answers(*alloc, self.0).err() == bad
-            && parse_list(*alloc, self.0).err() == bad
-            && are_options_refused(*alloc, self.0) == Ok(true)
+        are_options_refused(*alloc, self.0) == Ok(true)
     }
 }
 
 const NO_NUMBER: ItemFault = ItemFault::NotANumber;
 
-// A text that spells no list, and its first faulty item: its place, its text, what is wrong.
-struct Misspelled(&'static str, Bounds, usize, &'static str, ItemFault);
+// The arguments that give an option this list.
+fn words_with(option: ListOption, list: &str) -> [&str; 4] {
+    match option {
+        ListOption::Under => ["ptb", "--all", "--under", list],
+        ListOption::After => ["ptb", "--all", "--after", list],
+        ListOption::Answers => ["ptb", "game.bas", "--answers", list],
+    }
+}
+
+// A text that spells no list, the option that it is given to, and its first faulty item: its place, its
+// text, what is wrong.
+struct Misspelled(&'static str, ListOption, usize, &'static str, ItemFault);
 
 impl Row<Global> for Misspelled {
-    fn holds(&self, _alloc: &Global) -> bool {
-        let Misspelled(list, bounds, item, text, fault) = *self;
-        list_mistake(list, bounds) == Some(ListMistake { item, text, fault })
+    fn holds(&self, alloc: &Global) -> bool {
+        let Misspelled(list, option, item, text, fault) = *self;
+        let mistake = ListMistake { item, text, fault };
+        let words = words_with(option, list);
+        match parse(*alloc, words.as_slice()) {
+            Ok(matches) => misspelled_list(&matches) == Some(MisspelledList { option, mistake }),
+            Err(_) => false,
+        }
     }
 }
 
 const MISTAKES: &[Misspelled] = table! { Misspelled:
-    ("", Bounds::Allowed, 1, "", NO_NUMBER),
-    ("2, 2", Bounds::Allowed, 2, " 2", NO_NUMBER),
-    ("1,2,03,x", Bounds::Allowed, 3, "03", NO_NUMBER),
-    ("32768,0", Bounds::Allowed, 1, "32768", NO_NUMBER),
-    ("2/2,1/", Bounds::Allowed, 2, "1/", NO_NUMBER),
-    ("1/32768", Bounds::Allowed, 1, "1/32768", NO_NUMBER),
-    ("none,1", Bounds::Allowed, 1, "none", NO_NUMBER),
-    ("1,,2", Bounds::Allowed, 2, "", NO_NUMBER),
-    ("1,", Bounds::Refused, 2, "", NO_NUMBER),
-    ("x,1/3", Bounds::Refused, 1, "x", NO_NUMBER),
-    ("1/0", Bounds::Refused, 1, "1/0", NO_NUMBER),
-    ("1/3", Bounds::Refused, 1, "1/3", ItemFault::HasBound),
-    ("2,1/3,x", Bounds::Refused, 2, "1/3", ItemFault::HasBound),
+    ("", ListOption::After, 1, "", NO_NUMBER),
+    ("2, 2", ListOption::After, 2, " 2", NO_NUMBER),
+    ("1,2,03,x", ListOption::After, 3, "03", NO_NUMBER),
+    ("32768,0", ListOption::After, 1, "32768", NO_NUMBER),
+    ("2/2,1/", ListOption::Under, 2, "1/", NO_NUMBER),
+    ("1/32768", ListOption::After, 1, "1/32768", NO_NUMBER),
+    ("none,1", ListOption::After, 1, "none", NO_NUMBER),
+    ("1,,2", ListOption::Under, 2, "", NO_NUMBER),
+    ("1,", ListOption::Answers, 2, "", NO_NUMBER),
+    ("x,1/3", ListOption::Answers, 1, "x", NO_NUMBER),
+    ("1/0", ListOption::Answers, 1, "1/0", NO_NUMBER),
+    ("1/3", ListOption::Answers, 1, "1/3", ItemFault::HasBound),
+    ("2,1/3,x", ListOption::Answers, 2, "1/3", ItemFault::HasBound),
 };
 
 // Arguments, and the line that says which list is misspelled, if one is.
@@ -475,27 +487,33 @@ enum List {
 // A text, and the list that it spells.
 struct Spelled(&'static str, List);
 
-fn are_answers(alloc: Global, text: &str, wanted: &[i16]) -> bool {
-    match parse_answers(alloc, text) {
-        Ok(list) => list.as_slice() == wanted && list.into_vec().as_slice() == wanted,
-        Err(_) => false,
-    }
-}
-
-fn are_marked(alloc: Global, text: &str, wanted: &[Marked]) -> bool {
-    match parse_list(alloc, text) {
-        Ok(list) => list.as_slice() == wanted && list.into_vec().as_slice() == wanted,
+// Whether these arguments ask for this, and no list of theirs is misspelled.
+fn is_given(alloc: Global, words: &[&str], asked: &Asked) -> bool {
+    match decided(alloc, words) {
+        Ok(request) => {
+            is_asked(&request.mode, asked) && says_misspelled(alloc, words, "").is_none()
+        }
         Err(_) => false,
     }
 }
 
 impl Row<Global> for Spelled {
     fn holds(&self, alloc: &Global) -> bool {
-        let (is_spelled, bounds) = match self.1 {
-            List::Answers(wanted) => (are_answers(*alloc, self.0, wanted), Bounds::Refused),
-            List::Marked(wanted) => (are_marked(*alloc, self.0, wanted), Bounds::Allowed),
-        };
-        is_spelled && list_mistake(self.0, bounds).is_none()
+        match self.1 {
+            List::Answers(wanted) => {
+                let words = words_with(ListOption::Answers, self.0);
+                is_given(*alloc, &words, &Asked::Run(wanted))
+            }
+            List::Marked(wanted) => {
+                let (under, after) = (
+                    words_with(ListOption::Under, self.0),
+                    words_with(ListOption::After, self.0),
+                );
+                let list = Some(wanted);
+                is_given(*alloc, &under, &Asked::All(list, None, None, Form::Two))
+                    && is_given(*alloc, &after, &Asked::All(None, list, None, Form::Two))
+            }
+        }
     }
 }
 

@@ -3,10 +3,11 @@
 use crate::tests::explorers::BRANCHES;
 use crate::tests::served_listings::kept;
 use crate::tests::shared::{
-    FOUR_OF_3, ONE, Row, THREE, TWO, TWO_OF_2, TWO_OF_3, expect_rows, plain_rules, table,
+    DEFAULT_MEMORY, FOUR_OF_3, ONE, Row, THREE, TWO, TWO_OF_2, TWO_OF_3, expect_rows, plain_rules,
+    table,
 };
 use ptb_explore::{Form, Marked, Mismatch};
-use ptb_options::{DEFAULT_MEMORY, Mode, Request};
+use ptb_options::{Mode, Request};
 use ptb_serve::{ListMismatch, Note, serve};
 use ptb_text::Device;
 use std::alloc::{AllocError, Global};

@@ -2,9 +2,9 @@
 // their bytes.
 
 use crate::tests::devices::{Endless, Failing, Script, Sink, make_sink};
-use crate::tests::shared::{expect_same, rules};
+use crate::tests::shared::{DEFAULT_MEMORY, DEFAULT_STEPS, expect_same, rules};
 use ptb_explore::Form;
-use ptb_options::{DEFAULT_MEMORY, DEFAULT_STEPS, Mode, Request};
+use ptb_options::{Mode, Request};
 use ptb_serve::{Note, Outcome, serve};
 use ptb_text::{Device, Read};
 use std::alloc::{AllocError, Global};

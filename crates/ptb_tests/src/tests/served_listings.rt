@@ -2,9 +2,11 @@
 
 use crate::tests::devices::{FAILINGS, Failing, Script, Sink, make_sink};
 use crate::tests::replies::{expect_reply, outcome_of, reply_on_endless_input, reply_to};
-use crate::tests::shared::{ONE, TWO_OF_2, TWO_OF_3, expect_same, rules};
+use crate::tests::shared::{
+    DEFAULT_MEMORY, DEFAULT_STEPS, ONE, TWO_OF_2, TWO_OF_3, expect_same, rules,
+};
 use ptb_explore::{Form, Marked};
-use ptb_options::{DEFAULT_MEMORY, DEFAULT_STEPS, MarkedAnswers, Mode, Request};
+use ptb_options::{MarkedAnswers, Mode, Request};
 use ptb_serve::{Note, Outcome};
 use ptb_text::Device;
 use std::alloc::{AllocError, Global};

@@ -22,6 +22,12 @@ pub(crate) fn plain_rules(limit: u32) -> Rules {
     rules(limit, None)
 }
 
+/// The most commands of a run, where `--steps` is left out.
+pub(crate) const DEFAULT_STEPS: u32 = 10_000;
+
+/// The memory of a program, where `--memory` is left out.
+pub(crate) const DEFAULT_MEMORY: u16 = 4096;
+
 /// Two values that must be the same; `what` says of what they are.
 pub(crate) fn expect_same<T: Copy + PartialEq + Debug>(rt: &impl Abort, what: &str, a: T, b: T) {
     assert_eq!(rt; a, b, "{what}");

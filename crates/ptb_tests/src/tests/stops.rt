@@ -1,9 +1,9 @@
 // This file tests at which line a limit stops a run, alone and as a request.
 
-use crate::tests::shared::{expect_same, loaded, plain_rules};
-use ptb_machine::{Ending, RunEnd, RunFault};
-use ptb_options::{DEFAULT_MEMORY, Mode, Request};
-use ptb_serve::{Outcome, run_plain_to_end, run_seeded_to_end, serve};
+use crate::tests::shared::{DEFAULT_MEMORY, expect_same, loaded, plain_rules};
+use ptb_machine::{Ending, RunEnd, RunFault, run_plain_to_end, run_seeded_to_end};
+use ptb_options::{Mode, Request};
+use ptb_serve::{Outcome, serve};
 use ptb_text::{Device, Program};
 use std::alloc::Global;
 use std::process::Abort;
