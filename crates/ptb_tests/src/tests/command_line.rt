@@ -551,6 +551,7 @@ fn lists_of_answers(rt: HostRuntime) {
 }
 
 // What is asked for.
+#[derive(Clone, Copy)]
 enum Asked {
     Run(&'static [i16]),
     Seed(u64),
