@@ -457,10 +457,10 @@ fn places(rt: HostRuntime) {
     }
 }
 
-// Where the command that is next at a place of a program begins: in which statement, and after how many
-// bytes.
-fn first_command(program: &Program, place: Option<Location>) -> Option<(usize, usize)> {
-    match next_command(program, place) {
+// Where the first command of a program begins: in which statement, and after how many bytes.
+fn first_command(program: &Program) -> Option<(usize, usize)> {
+    let number = program.first()?;
+    match next_command(program, start_of(program, number)) {
         Some((statement, cursor)) => Some((statement, cursor.place())),
         None => None,
     }
@@ -480,7 +480,7 @@ const FIRST_COMMANDS: &[FirstCommand] = &[
 fn expect_first_command(rt: &impl Abort, alloc: Global, (line, other, want): FirstCommand) {
     let program = program(alloc, line.as_bytes(), other).expect(rt, "memory");
     let place = Registers::new(alloc, &program).expect(rt, "memory").place;
-    let found = (numbers(place), first_command(&program, place));
+    let found = (numbers(place), first_command(&program));
     expect_eq(rt, line, found, (want, want));
 }
 
