@@ -18,6 +18,7 @@ pub mod Devices
 pub mod Traces
 pub mod Stops
 pub mod Configuration
+pub mod Takeovers
 pub mod Representation
 pub mod Acts
 pub mod Reports

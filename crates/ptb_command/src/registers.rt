@@ -1,10 +1,11 @@
 // This file has the registers, which are what commands change: where the run is, what is stored,
 // and what is open.
 
-ghost use Rattle.std.specs.Prelude.{◌≡◌, ℕ, ℤ, List, true, false, Option, IfOk, IsOk, OnOk, OnErr};
+ghost use Rattle.std.specs.Prelude.{◌≡◌, ℕ, ℤ, List, true, false, Option, IfOk};
 ghost use Rattle.ptb_command.specs.Configuration.{configuration};
 ghost use Rattle.ptb_command.specs.Representation.{Represents};
 ghost use Rattle.ptb_command.specs.State.{first_state};
+ghost use Rattle.ptb_command.specs.Takeovers.{TakesOver};
 
 use crate::command_order::command_laws;
 use crate::location::Location;
@@ -70,9 +71,7 @@ impl Registers {
     /// [`AllocError`] where there is no memory for the array. They hold what they held then.
     #[inline(always)]
     pub fn copy_from(&mut self, alloc: Global, other: &Registers) -> Result<(), AllocError>
-        ensures ok { OnOk result (self.new ≡ other.now) }
-        ensures same_size { self.old.store.size ≡ other.now.store.size → IsOk result }
-        ensures err { OnErr result (self.new ≡ self.old) }
+        ensures { TakesOver self.old self.new other.now (λ r. r.store) result }
     {
         self.store.copy_from(alloc, &other.store)?;
         self.stack.copy_from(&other.stack);

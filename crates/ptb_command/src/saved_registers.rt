@@ -1,7 +1,8 @@
 // This file has the saved form of registers: what they hold in little memory.
 
-ghost use Rattle.std.specs.Prelude.{◌≡◌, ◌↔◌, [], None, pos, IsOk, IsTrue, OnOk, OnErr};
+ghost use Rattle.std.specs.Prelude.{◌≡◌, ◌↔◌, [], None, pos, IsTrue, OnOk};
 ghost use Rattle.ptb_expr.specs.Store.{empty_cells};
+ghost use Rattle.ptb_command.specs.Takeovers.{TakesOver};
 
 use crate::location::Location;
 use crate::registers::Registers;
@@ -94,9 +95,7 @@ impl Registers {
     ///
     /// [`AllocError`] where there is no memory for the array. They hold what they held then.
     pub fn restore(&mut self, alloc: Global, saved: &SavedRegisters) -> Result<(), AllocError>
-        ensures ok { OnOk result (self.new ≡ saved.now) }
-        ensures same_size { self.old.store.size ≡ saved.now.store.size → IsOk result }
-        ensures err { OnErr result (self.new ≡ self.old) }
+        ensures { TakesOver self.old self.new saved.now (λ r. r.store) result }
     {
         self.store.restore(alloc, &saved.store)?;
         self.stack.restore(&saved.stack);

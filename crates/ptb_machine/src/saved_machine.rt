@@ -1,8 +1,9 @@
 // This file has the saved form of a machine: where a run is, in little memory.
 
-ghost use Rattle.std.specs.Prelude.{◌≡◌, ◌↔◌, [], None, true, pos, IsOk, IsTrue, OnOk, OnErr};
+ghost use Rattle.std.specs.Prelude.{◌≡◌, ◌↔◌, [], None, true, pos, IsTrue, OnOk};
 ghost use Rattle.ptb_expr.specs.Store.{empty_cells};
 ghost use Rattle.ptb_command.specs.Configuration.{configuration};
+ghost use Rattle.ptb_command.specs.Takeovers.{TakesOver};
 
 use crate::machine::Machine;
 use ptb_command::SavedRegisters;
@@ -91,9 +92,7 @@ impl Machine {
     ///
     /// [`AllocError`] where there is no memory for the array. It stays where it was then.
     pub fn restore(&mut self, alloc: Global, saved: &SavedMachine) -> Result<(), AllocError>
-        ensures ok { OnOk result (self.new ≡ saved.now) }
-        ensures same_size { self.old.cells.size ≡ saved.now.cells.size → IsOk result }
-        ensures err { OnErr result (self.new ≡ self.old) }
+        ensures { TakesOver self.old self.new saved.now (λ m. m.cells) result }
     {
         self.registers.restore(alloc, &saved.registers)?;
         self.steps = saved.steps;
