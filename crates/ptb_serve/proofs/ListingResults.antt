@@ -12,7 +12,7 @@ use Rattle.ptb_machine.specs.Play.{play}
 use Rattle.ptb_answers.specs.declared.form.Form.{Form}
 use Rattle.ptb_answers.specs.declared.form.Marked.{Marked}
 use Rattle.ptb_explore.specs.declared.fault.ExploreFault.{ExploreFault}
-use Rattle.ptb_explore.specs.Explorations.{Exploration, play_of, most_of}
+use Rattle.ptb_explore.specs.Explorations.{Exploration, exploration, play_of, most_of}
 use Rattle.ptb_explore.specs.Listing.{WritesRuns}
 use Rattle.ptb_explore.specs.Report.{report}
 use Rattle.ptb_explore.specs.Openings.{first_front}
@@ -114,15 +114,7 @@ module _ (request : Request) (p : StoredProgram) (memory : p.memory ≡ request.
 
     -- an explorer continued from its front
     module _ (out : Output) (e : Exploration) (f : Front)
-        (same : e ≡ record {
-          program = p;
-          input = input;
-          rules = request.rules;
-          under = answers_under under;
-          front = first_front after;
-          kept = e.kept;
-          played = e.played;
-        })
+        (same : e ≡ exploration p input request.rules (answers_under under) (first_front after) e.kept e.played)
         (begun : front_note (play p input request.rules) under after ≡ None) where
       abbrev Writes : Result ℕ ExploreFault → Type 0
       Writes result =

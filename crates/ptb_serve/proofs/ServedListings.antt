@@ -25,7 +25,7 @@ use Rattle.ptb_explore.specs.declared.fault.ExploreFault.{ExploreFault}
 use Rattle.ptb_explore.specs.declared.fault.ExploreFault.TheVariants as explores
 use Rattle.ptb_answers.specs.declared.form.Form.{Form}
 use Rattle.ptb_answers.specs.declared.form.Marked.{Marked}
-use Rattle.ptb_explore.specs.Explorations.{Exploration, play_of, most_of}
+use Rattle.ptb_explore.specs.Explorations.{Exploration, exploration, play_of, most_of}
 use Rattle.ptb_explore.specs.Listing.{text, WritesRuns}
 use Rattle.ptb_explore.specs.Report.{report}
 use Rattle.ptb_explore.specs.Openings.{first_front}
@@ -264,16 +264,8 @@ module _ (p : StoredProgram) (rules : Rules) (under after : Option (List Marked)
     -- by the bytes of the input, of which the lines are those that were read, and an explorer that continued from its
     -- front
     module _ (c : List ℕ) (input : List (List ℕ)) (is : input ≡ input_lines c) (e : Exploration) (f : Front)
-        (same : e ≡ record {
-          program = p;
-          input = input;
-          rules = rules;
-          under = answers_under under;
-          front = first_front
-              after;
-          kept = e.kept;
-          played = e.played;
-        }) (h : front_note (game input) under after ≡ None) where
+        (same : e ≡ exploration p input rules (answers_under under) (first_front after) e.kept e.played)
+        (h : front_note (game input) under after ≡ None) where
       abbrev WritesFrom : Exploration → Result ℕ ExploreFault → Type 0
       WritesFrom e result =
           WritesRuns (play_of e) e.under (report form (play_of e))
