@@ -1,7 +1,9 @@
 // This file tests replies to writers that fail: what was written is the beginning of the reply.
 
 use crate::tests::devices::{FAILINGS, Failing, Sink, make_sink};
-use crate::tests::replies::{Kind, RUN, ServedRow, expect_reply, row, rows, served_to};
+use crate::tests::replies::{
+    Kind, RUN, ServedRow, expect_reply, outcome_of, request_of, row, rows,
+};
 use ptb_serve::Note;
 use std::alloc::{AllocError, Global};
 use std::process::Abort;
@@ -16,7 +18,8 @@ fn expect_broken_off(
     mut sink: Sink,
     length: usize,
 ) -> Result<(), AllocError> {
-    let outcome = served_to(alloc, row, &mut sink)?;
+    let request = request_of(alloc, row)?;
+    let outcome = outcome_of(alloc, &request, row.program, row.input, &mut sink);
     let due = if length < row.bytes.len() {
         (74, Some(Note::Unwritten))
     } else {

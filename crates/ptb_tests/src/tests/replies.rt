@@ -169,16 +169,6 @@ pub(crate) fn outcome_of(
     )
 }
 
-/// Serves a row with this writer.
-pub(crate) fn served_to(
-    alloc: Global,
-    row: &ServedRow<'_>,
-    sink: &mut Sink,
-) -> Result<Outcome, AllocError> {
-    let request = request_of(alloc, row)?;
-    Ok(outcome_of(alloc, &request, row.program, row.input, sink))
-}
-
 /// Serves a row whose readers give some bytes a call, and whose writer takes as many.
 pub(crate) fn served(
     alloc: Global,

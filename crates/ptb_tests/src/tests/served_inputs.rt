@@ -56,6 +56,23 @@ fn expect_unread_input(
     Ok(())
 }
 
+// How many bytes of an input are read at most: one more than it may have.
+const MOST_READ: usize = 16_777_217;
+
+// A row whose input is endless is served by reading at most this many bytes of it.
+fn expect_on_endless_input(
+    rt: &impl Abort,
+    alloc: Global,
+    row: &ServedRow<'_>,
+    most: usize,
+) -> Result<(), AllocError> {
+    let request = request_of(alloc, row)?;
+    let (reply, given) = reply_on_endless_input(alloc, &request, row.program, 1);
+    expect_reply(rt, reply, (row.status, row.note), row.bytes);
+    expect_same(rt, "a limit", given <= most, true);
+    Ok(())
+}
+
 // The kinds of requests that read the input to its end first.
 const INPUT_FIRST: &[Kind<'static>] = &[
     Kind::Chances,
@@ -75,7 +92,7 @@ fn inputs_read_first(rt: HostRuntime) -> Result<(), Fail> {
             note = Some(Note::InputUnread)
         );
         expect_unread_input(&rt, rt.alloc(), &row, b"5\n")?;
-        expect_endless_input(&rt, rt.alloc(), &row)?;
+        expect_on_endless_input(&rt, rt.alloc(), &row, MOST_READ)?;
     }
     Ok(())
 }
@@ -93,42 +110,19 @@ fn unread_inputs(rt: HostRuntime) -> Result<(), Fail> {
     Ok(())
 }
 
-// A row whose input is endless can't read it.
-fn expect_endless_input(
-    rt: &impl Abort,
-    alloc: Global,
-    row: &ServedRow<'_>,
-) -> Result<(), AllocError> {
-    let request = request_of(alloc, row)?;
-    let (reply, given) = reply_on_endless_input(alloc, &request, row.program, 1);
-    expect_reply(rt, reply, (66, Some(Note::InputUnread)), row.bytes);
-    expect_same(rt, "a limit", given <= 16_777_217, true);
-    Ok(())
-}
-
 #[test]
 fn endless_inputs(rt: HostRuntime) -> Result<(), Fail> {
-    expect_endless_input(&rt, rt.alloc(), &row!(b"10 INPUT A\n", b"A:", 66))?;
-    Ok(())
-}
-
-// A row is served without reading its input, which is endless.
-fn expect_no_reading(
-    rt: &impl Abort,
-    alloc: Global,
-    row: &ServedRow<'_>,
-) -> Result<(), AllocError> {
-    let request = request_of(alloc, row)?;
-    let (reply, given) = reply_on_endless_input(alloc, &request, row.program, 3);
-    expect_reply(rt, reply, (row.status, None), row.bytes);
-    expect_same(rt, "bytes that were read", given, 0);
+    let note = Some(Note::InputUnread);
+    let row = row!(b"10 INPUT A\n", b"A:", 66, note = note);
+    expect_on_endless_input(&rt, rt.alloc(), &row, MOST_READ)?;
     Ok(())
 }
 
 // A program that asks for no line takes none.
 #[test]
 fn inputs_not_asked_for(rt: HostRuntime) -> Result<(), Fail> {
-    expect_no_reading(&rt, rt.alloc(), &row!(b"10 PRINT \"HI\"\n", b"HI\n", 0))?;
+    let row = row!(b"10 PRINT \"HI\"\n", b"HI\n", 0);
+    expect_on_endless_input(&rt, rt.alloc(), &row, 0)?;
     Ok(())
 }
 
@@ -142,7 +136,7 @@ const WITHOUT_INPUT: &[ServedRow<'static>] = rows! {
 #[test]
 fn inputs_left_alone(rt: HostRuntime) -> Result<(), Fail> {
     for row in WITHOUT_INPUT {
-        expect_no_reading(&rt, rt.alloc(), row)?;
+        expect_on_endless_input(&rt, rt.alloc(), row, 0)?;
     }
     Ok(())
 }
