@@ -1,4 +1,5 @@
 -- This file defines what is promised where something that has variables and an array takes over what another has.
+-- Main definition: `TakesOver`.
 --     TakesOver old new other cells result    with this result, it has what the other has, or what it had
 use Rattle.std.specs.Prelude.{◌≡◌, Result, IsOk, OnOk, OnErr}
 use Rattle.std.specs.declared.alloc.AllocError.{AllocError}
