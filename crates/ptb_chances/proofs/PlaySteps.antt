@@ -174,8 +174,7 @@ module _ (laws : RunLaws) (p : StoredProgram) (rules : Rules) where
         (steps u.state rest (record {
           represents = u.stands.represents;
           lines = u.stands.lines_left ∙ l;
-          follow = follows;
-          choose = u.stands.choose;
+          follow = λ none. (follows none, u.stands.choose);
         }))
 
   pub step_came : (S : State) (m new : Configuration) (c d : Choices) (s t : List ℕ) (given left rest : List (List ℕ))

@@ -85,10 +85,11 @@ no_lines [] ys e k = k
 no_lines (x ∷ xs) ys e k = absurd (omega (arith, e))
 
 -- what may follow an exchange may also follow what came before it, after the lines that the exchange gives
-pub follows_before : {d e : Devices} {y : Exchange} → Exchanges d e y → (rest : List (List ℕ)) → MayFollow e rest
-    → MayFollow d (y.given ++ rest)
-follows_before {y = y} q rest f = λ none. no_lines y.given rest (omega (arith, q.falls, none))
-    (f (omega (arith, q.falls, none)))
+pub follows_before : {d e : Devices} {y : Exchange} → Exchanges d e y → (rest : List (List ℕ)) (choose : Option ℤ)
+    → MayFollow e rest choose → MayFollow d (y.given ++ rest) choose
+follows_before {d = d} {e = e} {y = y} q rest choose f = λ none.
+    let h : (rest ≡ []) × (choose ≡ e.choose) = f (omega (arith, q.falls, none)) in
+    (no_lines y.given rest (omega (arith, q.falls, none)) h.0, h.1 ∙ q.same_choose)
 
 -- ---- failures
 

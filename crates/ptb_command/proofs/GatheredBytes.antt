@@ -61,7 +61,7 @@ module _ (d : Devices) (fresh : Bool) (cells : Cells) (pending : List ℕ) where
         subst (λ (s : List ℕ). Leaves (idle (record S { shown = s })) m.exchange.answers m.exchange.bounds
         (g (once_shown n.pending (state_after n m.exchange.bytes rest S))))
         (sym (after_is S.shown pending))
-        (m.leaves S rest f (record { fresh = w.fresh; cells = w.cells; lines = w.lines; choose = w.choose }));
+        (m.leaves S rest f (record { fresh = w.fresh; cells = w.cells; lines = w.lines }));
   }
 
   pub flush_comes : (n : Trace) (r : Result (Unit {0}) CommandStop)

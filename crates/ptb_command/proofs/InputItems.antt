@@ -431,10 +431,10 @@ module _ (said : List ℕ) (x : Tree) (prompt : List ℕ) where
     exchanges = exchanges_most m.devices most (omega (arith, none));
     fresh = freshens_nothing m.fresh;
     leaves = λ S rest f w.
-        let lines : S.lines ≡ [] = w.lines ∙ f none in
+        let lines : S.lines ≡ [] = w.lines ∙ (f none).0 in
         leaves_to (without_line m.devices.choose at (once_shown m.pending (state_after m [] rest S)))
         (ap (λ ls. answer_by at ls (once_shown m.pending S)) lines
-        ∙ ap (λ c. without_line c at (once_shown m.pending S)) w.choose
+        ∙ ap (λ c. without_line c at (once_shown m.pending S)) (f none).1
         ∙ ap (without_line m.devices.choose at) (once_nothing m m.pending rest S w))
         (leaves_itself (wants at (once_shown m.pending S)));
   }
@@ -528,7 +528,7 @@ module _ (said : List ℕ) (x : Tree) (prompt : List ℕ) where
     leaves = λ S rest f w.
         let taken : record S { lines = rest } ≡ state_after m [] rest S =
         after_nothing m rest (record S { lines = rest })
-        (record { fresh = w.fresh; cells = w.cells; lines = refl; choose = w.choose }) in
+        (record { fresh = w.fresh; cells = w.cells; lines = refl }) in
         leaves_to (line_next at l (once_shown m.pending (state_after m [] rest S)))
         (ap (λ ls. answer_by at ls (once_shown m.pending S)) w.lines ∙ given_same at l rest (once_shown m.pending S)
         ∙ ap (λ T. line_next at l (once_shown m.pending T)) taken)

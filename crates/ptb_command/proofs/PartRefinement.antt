@@ -64,13 +64,8 @@ leaves_at p later = ap (λ h. h later) p.rest
 -- ---- states
 
 pub fits_after : (o n : Trace) (x : Exchange) (rest : List (List ℕ)) (S : State) → Freshens o.fresh x.bytes n.fresh
-    → n.devices.choose ≡ o.devices.choose → Fits o (x.given ++ rest) S → Fits n rest (state_after n x.bytes rest S)
-fits_after o n x rest S fresh same w = record {
-  fresh = fresh S.shown w.fresh;
-  cells = refl;
-  lines = refl;
-  choose = w.choose ∙ sym same;
-}
+    → Fits o (x.given ++ rest) S → Fits n rest (state_after n x.bytes rest S)
+fits_after o n x rest S fresh w = record { fresh = fresh S.shown w.fresh; cells = refl; lines = refl }
 
 fits_assoc : (o : Trace) (ks ls rest : List (List ℕ)) (S : State) → Fits o ((ks ++ ls) ++ rest) S
     → Fits o (ks ++ (ls ++ rest)) S
@@ -78,7 +73,6 @@ fits_assoc o ks ls rest S w = record {
   fresh = w.fresh;
   cells = w.cells;
   lines = w.lines ∙ append_assoc ks ls rest;
-  choose = w.choose;
 }
 
 pub after_nothing : (o : Trace) (rest : List (List ℕ)) (S : State) → Fits o rest S → S ≡ state_after o [] rest S
@@ -131,9 +125,8 @@ refines_part_then {o = o} {m = m} {n = n} {f = f} {g = g} {h = h} a b = record {
       let fits = fits_assoc o a.exchange.given b.exchange.given rest S w in
       leaves_to (h (once_shown n.pending (state_after n (a.exchange.bytes ++ b.exchange.bytes) rest S)))
       (ap (λ T. h (once_shown n.pending T)) (after_twice m n a.exchange.bytes b.exchange.bytes lines rest S))
-      (leaves_then (a.leaves S lines (follows_before b.exchanges rest f) fits)
-      (b.leaves (state_after m a.exchange.bytes lines S) rest f
-      (fits_after o m a.exchange lines S a.fresh a.exchanges.same_choose fits)));
+      (leaves_then (a.leaves S lines (follows_before b.exchanges rest S.choose f) fits)
+      (b.leaves (state_after m a.exchange.bytes lines S) rest f (fits_after o m a.exchange lines S a.fresh fits)));
 }
 
 -- under a function that leaves questions as they are

@@ -57,7 +57,7 @@ module _ {A : Type 0} (f : Cells → Work A) (c e : Choices) (d : Devices) (fres
         p.bounds later) (sym w.cells)
         (leaves_to later
         (ap (λ (T : State). attempt (λ k. g) T) (once_nothing n pending rest S
-        (record { fresh = w.fresh; cells = w.cells; lines = w.lines; choose = w.choose })))
+        (record { fresh = w.fresh; cells = w.cells; lines = w.lines })))
         (leaves_under (λ o. map_outcome (λ r. Goes r (once_shown pending S)) (λ u. once_shown pending S) o)
         (λ u. once_shown pending S) (λ n v. refl) (record { asked = p.asked; rest = p.rest })));
   }

@@ -25,14 +25,14 @@ pub record Leads {A : Type 0} (p : Statements) (new : Configuration) (x : Exchan
   pub lines : state.lines ≡ rest
   pub choose : state.choose ≡ S.choose
 
--- in every state that the old machine represents, which asks for answers as the devices say, and whose lines begin
--- with those that are given, and have left what may follow them
+-- in every state that the old machine represents, and whose lines begin with those that are given, and have left what
+-- may follow them
 pub record Refines {A : Type 0} (p : Statements) (old new : Configuration) (o n : Devices) (f g : State → Answers
     → Outcome A State) : Type 0 where
   pub exchange : Exchange
   pub exchanges : Exchanges o n exchange
   pub leads :
-      (S : State) (rest : List (List ℕ)) → Represents p old S → S.choose ≡ o.choose → MayFollow n rest
+      (S : State) (rest : List (List ℕ)) → Represents p old S → MayFollow n rest S.choose
       → S.lines ≡ exchange.given ++ rest
       → Leads p new exchange rest S (f S) g
 

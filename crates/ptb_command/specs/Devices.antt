@@ -4,7 +4,7 @@
 --     Exchange                 answers with their bounds, bytes that are shown, and lines that are given
 --     both_exchanges x y       one exchange after another
 --     Exchanges o n x          from o to n the devices exchange x, and no write fails
---     MayFollow d rest         the source may have these lines left
+--     MayFollow d rest choose  the source may have these lines left, and where none is, an answer be asked for so
 --     Refusal                  what the chooser or the line source refuses
 --     HasBroken refused o n e  between o and n the device that the error e names has failed
 use Rattle.std.specs.Prelude.{◌≡◌, ◌≤◌, ◌+◌, ◌⊎◌, ℕ, Bool, List, [], ◌++◌, length, Option, ℤ, IsTrue}
@@ -110,9 +110,11 @@ pub record Exchanges (o n : Devices) (x : Exchange) : Type 0 where
   pub falls : n.most + length x.given ≤ o.most
   pub same_choose : n.choose ≡ o.choose
 
--- lines that may be left after those that were given: none where the source can give none
-abbrev pub MayFollow : Devices → List (List ℕ) → Type 0
-MayFollow d rest = d.most ≡ 0 → rest ≡ []
+-- lines that may be left after those that were given, and the bound with which an answer may be asked for where none
+-- is left. Where the source can give none, none is left, and the bound is the devices'; as long as it can give one, no
+-- answer was asked for instead of a line, so the bound makes no difference.
+abbrev pub MayFollow : Devices → List (List ℕ) → Option ℤ → Type 0
+MayFollow d rest choose = d.most ≡ 0 → (rest ≡ []) × (choose ≡ d.choose)
 
 -- ---- refusals
 

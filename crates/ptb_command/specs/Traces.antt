@@ -58,7 +58,6 @@ pub record Fits (o : Trace) (left : List (List ℕ)) (S : State) : Type 0 where
   pub fresh : is_fresh S.shown ≡ o.fresh
   pub cells : S.cells ≡ o.cells
   pub lines : S.lines ≡ left
-  pub choose : S.choose ≡ o.devices.choose
 
 -- once the trace is n, these bytes were shown, and these lines are left
 abbrev pub state_after : Trace → List ℕ → List (List ℕ) → State → State
@@ -86,6 +85,7 @@ pub record RefinesPart {A : Type 0} (o n : Trace) (f g : State → Answers → O
   pub exchange : Exchange
   pub exchanges : Exchanges o.devices n.devices exchange
   pub fresh : Freshens o.fresh exchange.bytes n.fresh
-  pub leaves : (S : State) (rest : List (List ℕ)) → MayFollow n.devices rest → Fits o (exchange.given ++ rest) S
+  pub leaves : (S : State) (rest : List (List ℕ)) → MayFollow n.devices rest S.choose
+      → Fits o (exchange.given ++ rest) S
       → Leaves (f (once_shown o.pending S)) exchange.answers exchange.bounds
       (g (once_shown n.pending (state_after n exchange.bytes rest S)))

@@ -66,7 +66,7 @@ module _ (laws : RunLaws) (p : StoredProgram) (input : List (List ℕ)) (rules :
       drawn_comes e (subst (λ r. StepComes (refused_by RefusedForMemory (λ _. ⊥) (Some rest)) (StepsTo p.lines new
       (devices c (text_state s) most rules.choose []) u.state rest (turn p rules.limit u.state))
       (devices d (text_state t) few rules.choose given) r) is (steps u.state rest
-      (record { represents = u.represents; lines = u.left_is ∙ l; follow = follows; choose = u.choose })))
+      (record { represents = u.represents; lines = u.left_is ∙ l; follow = λ none. (follows none, u.choose) })))
 
 -- ---- the run of a chooser
 

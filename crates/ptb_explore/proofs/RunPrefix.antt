@@ -254,8 +254,7 @@ module _ (laws : RunLaws) (p : StoredProgram) (input : List (List ℕ)) (rules :
       (steps u.state rest (record {
         represents = u.represents;
         lines = u.left_is ∙ l;
-        follow = follows;
-        choose = u.choose;
+        follow = λ none. (follows none, u.choose);
       })) in (
         (turn_holds m new c d s t given left rest most few u goes x).0,
         goes_run_prefix m new c d s t given left rest
@@ -284,7 +283,7 @@ module _ (laws : RunLaws) (p : StoredProgram) (input : List (List ℕ)) (rules :
       let x = subst (λ r. StepComes (refused_by (RefusedByPlan d bound) (λ _. ⊥) (Some rest)) (StepsTo p.lines new
       (devices c (text_state s) most rules.choose []) u.state rest (turn p rules.limit u.state))
       (devices d (text_state t) few rules.choose given) r) is (steps u.state rest
-      (record { represents = u.represents; lines = u.left_is ∙ l; follow = follows; choose = u.choose })) in
+      (record { represents = u.represents; lines = u.left_is ∙ l; follow = λ none. (follows none, u.choose) })) in
       ending_comes m new c d bound s t given left rest most few u e x
 
   -- a machine that isn't spent, whose bytes and lines are in memory, has no fault except lack of memory
@@ -302,7 +301,7 @@ module _ (laws : RunLaws) (p : StoredProgram) (input : List (List ℕ)) (rules :
     faulted f is = subst (λ r. StepComes (refused_by refuses (λ _. ⊥) (Some rest)) (StepsTo p.lines new
         (devices c (text_state s) most rules.choose []) u.state rest (turn p rules.limit u.state))
         (devices d (text_state t) few rules.choose given) r) is (steps u.state rest
-        (record { represents = u.represents; lines = u.left_is ∙ l; follow = follows; choose = u.choose }))
+        (record { represents = u.represents; lines = u.left_is ∙ l; follow = λ none. (follows none, u.choose) }))
 
     never_unread : r ≡ Err faults.Read → ⊥
     never_unread is = let w : Fault faults.Read = faulted faults.Read is in elim w.broken.0.by [ inl x ↦ x | inr x ↦ x ]
@@ -379,12 +378,12 @@ module _ (p : StoredProgram) (input : List (List ℕ)) (rules : Rules) (m new : 
       turn_extends goes (subst (λ r. StepComes refused (StepsTo p.lines new
       (devices c (text_state s) most rules.choose []) u.state rest (turn p rules.limit u.state))
       (devices d (text_state t) few rules.choose given) r) is (steps u.state rest
-      (record { represents = u.represents; lines = u.left_is ∙ l; follow = follows; choose = u.choose })))
+      (record { represents = u.represents; lines = u.left_is ∙ l; follow = λ none. (follows none, u.choose) })))
   step_extends (Some e) r is l follows steps =
       ending_extends e (subst (λ r. StepComes refused (StepsTo p.lines new
       (devices c (text_state s) most rules.choose []) u.state rest (turn p rules.limit u.state))
       (devices d (text_state t) few rules.choose given) r) is (steps u.state rest
-      (record { represents = u.represents; lines = u.left_is ∙ l; follow = follows; choose = u.choose })))
+      (record { represents = u.represents; lines = u.left_is ∙ l; follow = λ none. (follows none, u.choose) })))
 
 -- where a list can give no line, none is left
 pub none_follow : (s : LineList) → length s.lines - s.taken ≡ 0 → drop s.taken s.lines ≡ []

@@ -13,7 +13,7 @@ use Rattle.ptb_machine.specs.declared.fault.RunFault.{RunFault}
 use Rattle.ptb_machine.specs.declared.run_end.RunEnd.{RunEnd}
 use Rattle.ptb_command.specs.Stops.{ReportsMissed}
 use Rattle.ptb_machine.specs.RunDevices.{RunDevices, held, refusals}
-use Rattle.ptb_machine.specs.Runs.{IsLineOf, IsCompleteRun, IsRunToEnd, Runs, run_miss}
+use Rattle.ptb_machine.specs.Runs.{IsLineOf, IsCompleteRun, IsRunToEnd, Runs, choosing, run_miss}
 
 module _ {C S L : Type 0} (chooser : choosers.Ghosts C) (screen : screens.Ghosts S) (source : sources.Ghosts L)
     (p : StoredProgram) (rules : Rules) (o n : RunDevices C S L) where
@@ -26,8 +26,9 @@ module _ {C S L : Type 0} (chooser : choosers.Ghosts C) (screen : screens.Ghosts
     run = record {
       given = run.given;
       gives = run.gives;
-      runs = subst (λ (x : Ending). Runs (refusals chooser screen source n) p rules (held chooser screen source rules o
-          []) (held chooser screen source rules n run.given) (Ok x)) (sym e) run.runs;
+      runs = λ choose range. subst (λ (x : Ending). Runs (refusals chooser screen source n) p
+          (choosing rules choose range) (held chooser screen source rules o [])
+          (held chooser screen source rules n run.given) (Ok x)) (sym e) (run.runs choose range);
       missed = subst (λ (x : Ending). ReportsMissed source rules.choose o.source n.source (run_miss (Ok x)))
           (sym e) run.missed;
     };

@@ -2,7 +2,7 @@
 -- Main lemmas: `ran_whole` and `ran_unread`.
 use Rattle.std.proofs.Common.{◌≡◌, ◌≤◌, ◌+◌, ◌⊎◌, inl, inr, Bool, ℕ, ℤ, List, [], ◌++◌, length}
 use Rattle.std.proofs.Common.{Option, Some, None, Result, Ok, Err, IfOk, IfSome, IsErrOf, OnOk}
-use Rattle.std.proofs.Common.{refl, sym, ap, subst, ◌∙◌}
+use Rattle.std.proofs.Common.{pos, ◌≤ℤ◌, refl, sym, ap, subst, ◌∙◌}
 use Rattle.std.specs.Borrow.{MutBor}
 use Rattle.std.specs.Io.KnownBytes.{Appends, Consumes}
 use Rattle.ptb_text.specs.Device.{GivesAtMost, GivesExactly, HasFailed}
@@ -27,17 +27,17 @@ use Rattle.ptb_machine.specs.declared.fault.RunFault.{RunFault}
 use Rattle.ptb_machine.specs.declared.fault.RunFault.TheVariants as runs
 use Rattle.ptb_machine.specs.declared.run_end.RunEnd.{RunEnd}
 use Rattle.ptb_machine.specs.Play.{stopping_line}
-use Rattle.ptb_machine.specs.Runs.{IsLineOf, Runs, run_miss}
+use Rattle.ptb_machine.specs.Runs.{IsLineOf, Runs, choosing, run_miss}
 use Rattle.ptb_machine.specs.MemoryNotes.{noted, noted_result}
 use Rattle.ptb_machine.specs.PlainRuns.{GoesBy, HasLine, IsUnreadable, PlaysWith, ReadsFor}
 use Rattle.ptb_machine.specs.PlainRuns.{ReadsLines, WantsMemory, input_limit, lines_taken}
-use Rattle.ptb_machine.specs.PlainRuns.{lines_wanted}
+use Rattle.ptb_machine.specs.PlainRuns.{lines_wanted, without_choose}
 use Rattle.ptb_machine.specs.CommandResults.{fault_of_device}
 use Rattle.ptb_machine.specs.Streams.{Reads, Writes, reads_of, writes_of}
 use Rattle.ptb_machine.proofs.WriterRuns.{IsRunBetween, IsUnreadBetween, led_line, led_run, led_run_dry}
 use Rattle.ptb_machine.proofs.WriterRuns.{led_run_takes, run_between, state_of, unread_between}
 use Rattle.ptb_machine.proofs.TakenInput.{begins_input, failed_or_given, fault_missed, fault_unread}
-use Rattle.ptb_machine.proofs.TakenInput.{fault_without_memory, fresh, given_at_most, is_unreadable}
+use Rattle.ptb_machine.proofs.TakenInput.{fault_without_memory, fresh, given_at_most, is_unreadable, more_at_fault}
 use Rattle.ptb_machine.proofs.TakenInput.{never_unread, noted_read, noted_within, of_input, reads_for}
 use Rattle.ptb_machine.proofs.TakenInput.{reads_unfailed, shows_come, shows_input, stops_input, taken_by}
 use Rattle.ptb_machine.proofs.TakenInput.{takes_at_most, takes_within, wanted_at_fault, wanted_within}
@@ -71,8 +71,9 @@ module _ {R W : Type 0} (remaining : R → Option (List ℕ)) (counted failures 
       (gives : GivesFrom remaining counted failures source lines later)
       (ends : (line_reader later).ghost_name ≡ (line_reader source).ghost_name → j ≡ (line_reader later).now)
       (writer : screen.now ≡ w) (writes : screen.ghost_name ≡ screen_later.ghost_name → v ≡ screen_later.now)
-      (ran : Runs (refused_by (noted noticed refuses) (Refuses (line_input later).end)
-      (known_lines (input_of remaining counted failures later))) p rules
+      (ran : (choose : Option ℤ) (range : IfSome choose (λ n. pos 1 ≤ℤ n))
+      → Runs (refused_by (noted noticed refuses) (Refuses (line_input later).end)
+      (known_lines (input_of remaining counted failures later))) p (choosing rules choose range)
       (devices c (state_of contents written screen) (most_lines (line_input source)) rules.choose [])
       (devices d (state_of contents written screen_later) (most_lines (line_input later)) rules.choose lines) ended)
       (missed : UnlessMissed (Refuses (line_input later).end) (NotMissed rules.choose (asked (line_input source))
@@ -160,7 +161,7 @@ module _ {R W : Type 0} (remaining : R → Option (List ℕ)) (counted failures 
     ran_noted none =
         let unread : IsErrOf result runs.Read → ⊥ =
         λ e. never_unread p rules (noted noticed refuses) _ _ (line_input later).end (known_lines now) none ended
-        (ran [] (λ _. refl)) (noted_read noticed ended e) in
+        (ran rules.choose rules.in_range [] (λ _. (refl, refl))) (noted_read noticed ended e) in
         let same = sym left_by in
         record {
           plays = λ answers goes.
@@ -212,18 +213,18 @@ module _ {R W : Type 0} (remaining : R → Option (List ℕ)) (counted failures 
 
     -- it has come to one
     module _ (fault : DeviceFault) (is : fault_at (line_input later).end ≡ Some fault) where
-      -- on the lines that it was given it ends for lack of one, or would ask for an answer
+      -- on the lines that it was given it ends for lack of one, where no answer is asked for instead
       dry : (answers : List (List ℕ) → Answers) → Goes answers
-          → IsUnreadBetween contents written p rules (lines ++ []) (answers (lines ++ [])) w v
+          → IsUnreadBetween contents written p (without_choose rules) (lines ++ []) (answers (lines ++ [])) w v
       dry answers goes =
-          unread_between contents written p rules (lines ++ [])
+          unread_between contents written p (without_choose rules) (lines ++ [])
           (answers (lines ++ [])) screen screen_later w v writer writes
           (led_run_dry p rules answers refuses noticed c d (state_of contents written screen) (state_of contents written
           screen_later) (most_lines (line_input source)) (most_lines (line_input later)) lines
           (Refuses (line_input later).end) (known_lines now) ended goes ran (none_known now)
           (fault_without_memory (line_input later).end)
           (NotMissed rules.choose 0 (asked (line_input later)) (most_lines (line_input later)))
-          (fault_missed (line_input later) rules.choose fault is) unmissed)
+          (fault_missed (line_input later) rules.choose fault is) unmissed (more_at_fault (line_input later) fault is))
 
       pub ran_unread : (answer : RunFault) → answer ≡ fault_of_device fault → IsRan (Err answer)
       ran_unread answer told =
@@ -238,7 +239,7 @@ module _ {R W : Type 0} (remaining : R → Option (List ℕ)) (counted failures 
               unread = λ _. (
                 on.taken,
                 subst (λ (x : R). Consumes (remaining i) (remaining x) on.taken) same on.consumed,
-                shows_come contents written p rules answers w v (asked (line_input later)) (counted i)
+                shows_come contents written p (without_choose rules) answers w v (asked (line_input later)) (counted i)
                     (failures i) now lines (remaining i) on fault is (dry answers goes),
               );
               asked = (

@@ -76,7 +76,7 @@ RunsTo p rules m o input rest d g =
 
 -- it has come to a machine, whatever lines are left
 abbrev pub HasRun : StoredProgram → Rules → Configuration → Devices → Devices → Type 0
-HasRun p rules m o d = (input rest : List (List ℕ)) → MayFollow d rest → input ≡ d.given ++ rest
+HasRun p rules m o d = (input rest : List (List ℕ)) → MayFollow d rest rules.choose → input ≡ d.given ++ rest
     → RunsTo p rules m o input rest d (all_turns p rules.limit)
 
 pub run_begins : (p : StoredProgram) (rules : Rules) (m : Configuration) (o : Devices) → o.given ≡ []
@@ -246,29 +246,24 @@ more_continues p rules shown left h = record {
 -- ---- steps, one after the other
 
 module _ (refused : Refusal → Type 0) (p : StoredProgram) (rules : Rules) (m n : Configuration) (o d e : Devices)
-    (same : o.choose ≡ rules.choose) (falls : e.most + length e.given ≤ d.most) (h : HasRun p rules m o d) where
+    (same : e.choose ≡ d.choose) (falls : e.most + length e.given ≤ d.most) (h : HasRun p rules m o d) where
   -- the run before the step, where these lines are left after it
-  before : (input rest : List (List ℕ)) → MayFollow e rest → input ≡ (d.given ++ e.given) ++ rest
+  before : (input rest : List (List ℕ)) → MayFollow e rest rules.choose → input ≡ (d.given ++ e.given) ++ rest
       → RunsTo p rules m o input (e.given ++ rest) d (all_turns p rules.limit)
   before input rest f k =
-      h input (e.given ++ rest) (λ none. no_lines e.given rest (omega (arith, falls, none))
-      (f (omega (arith, falls, none)))) (k ∙ append_assoc d.given e.given rest)
-
-  -- and it asks for answers as the devices say
-  chosen : {input rest : List (List ℕ)} {g : State → Answers → Outcome Last State}
-      (b : RunsTo p rules m o input rest d g)
-      → b.leads.state.choose ≡ d.choose
-  chosen b = b.leads.choose ∙ sym (b.exchanges.same_choose ∙ same)
+      h input (e.given ++ rest) (λ none.
+      let left : (rest ≡ []) × (rules.choose ≡ e.choose) = f (omega (arith, falls, none)) in
+      (no_lines e.given rest (omega (arith, falls, none)) left.0, left.1 ∙ same))
+      (k ∙ append_assoc d.given e.given rest)
 
   -- so its state is one before the step
-  before_step : {input : List (List ℕ)} (rest : List (List ℕ)) (f : MayFollow e rest)
+  before_step : {input : List (List ℕ)} (rest : List (List ℕ)) (f : MayFollow e rest rules.choose)
       (b : RunsTo p rules m o input (e.given ++ rest) d (all_turns p rules.limit))
-      → IsStateBefore p.lines m (record d { given = [] }) e b.leads.state rest
+      → IsStateBefore p.lines m e b.leads.state rest
   before_step rest f b = record {
     represents = b.leads.represents;
     lines = b.leads.lines;
-    follow = f;
-    choose = chosen b;
+    follow = subst (MayFollow e rest) (sym b.leads.choose) f;
   }
 
   -- the run continues
@@ -277,16 +272,16 @@ module _ (refused : Refusal → Type 0) (p : StoredProgram) (rules : Rules) (m n
       let b = before input rest f k in
       run_then p rules m n o d e input (e.given ++ rest) rest goes b (s b.leads.state rest (before_step rest f b))
 
-  pub run_falls : DoesStep refused p rules.limit m n (record d { given = [] }) e (Ok None)
+  pub run_falls : rules.choose ≡ e.choose → DoesStep refused p rules.limit m n (record d { given = [] }) e (Ok None)
       → rules.limit - n.steps < rules.limit - m.steps
-  run_falls s =
-      let b = before ((d.given ++ e.given) ++ []) [] (λ _. refl) refl in
-      let x = s b.leads.state [] (before_step [] (λ _. refl) b) in
+  run_falls chosen s =
+      let b = before ((d.given ++ e.given) ++ []) [] (λ _. (refl, chosen)) refl in
+      let x = s b.leads.state [] (before_step [] (λ _. (refl, chosen)) b) in
       let goes_on = turn_goes p rules.limit b.leads.state x.leads.state (x.exchange.answers ++ []) []
       (leaves_at x.leads.leaves []) in
       omega (arith, goes_on.0, goes_on.1, b.leads.represents.steps, x.leads.represents.steps)
 
-  module _ (rest : List (List ℕ)) (f : MayFollow e rest) where
+  module _ (rest : List (List ℕ)) (f : MayFollow e rest rules.choose) where
     abbrev whole : List (List ℕ)
     whole = (d.given ++ e.given) ++ rest
 
@@ -473,7 +468,8 @@ module _ (refused : Refusal → Type 0) (p : StoredProgram) (rules : Rules) (m n
   -- at its limit, where this is the line of the machine's next command
   pub run_stops : (line : Option ℕ) → ((q : Option Place) → PlacesAre p.lines q n.place → line ≡ next_number p.lines q)
       → DoesStep refused p rules.limit m n (record d { given = [] }) e (Ok (Some endings.Limit))
-      → (rest : List (List ℕ)) → MayFollow e rest → StopsAt p rules ((d.given ++ e.given) ++ rest) o (onto d e) line
+      → (rest : List (List ℕ)) → MayFollow e rest rules.choose
+      → StopsAt p rules ((d.given ++ e.given) ++ rest) o (onto d e) line
   run_stops line is s rest f =
       let b = before ((d.given ++ e.given) ++ rest) rest f refl in
       let x = run_then p rules m n o d e ((d.given ++ e.given) ++ rest) (e.given ++ rest) rest (ends endings.Limit) b
@@ -496,13 +492,13 @@ module _ (refused : Refusal → Type 0) (p : StoredProgram) (rules : Rules) (m n
 -- ---- plain turns
 
 pub run_advanced : (p : StoredProgram) (rules : Rules) (n : ℕ) (old new : Configuration) (o d : Devices)
-    → o.choose ≡ rules.choose → HasRun p rules old o d → PlainTurns p rules.limit n old new → HasRun p rules new o d
-run_advanced p rules zero old new o d chosen h same = subst (λ (m : Configuration). HasRun p rules m o d) (sym same) h
-run_advanced p rules (suc n) old new o d chosen h turns =
+    → HasRun p rules old o d → PlainTurns p rules.limit n old new → HasRun p rules new o d
+run_advanced p rules zero old new o d h same = subst (λ (m : Configuration). HasRun p rules m o d) (sym same) h
+run_advanced p rules (suc n) old new o d h turns =
     let plain = record d { given = [] } in
     subst (λ (given : List (List ℕ)). HasRun p rules new o (record d { given = given })) (append-nil d.given)
-    (run_on nothing_refused p rules turns.0 new o d plain chosen (omega arith)
-    (run_advanced p rules n old turns.0 o d chosen h turns.1) (turns.2 plain refl))
+    (run_on nothing_refused p rules turns.0 new o d plain refl (omega arith)
+    (run_advanced p rules n old turns.0 o d h turns.1) (turns.2 plain refl))
 
 -- ---- at the exits of the loop
 

@@ -1,7 +1,7 @@
 -- This file proves how a run continues and ends that is played step by step.
 -- Main lemmas: `underway_first` and `underway_advanced`, after the record that holds before each step.
 use Rattle.std.proofs.Common.{◌≡◌, ◌+◌, ◌-◌, ◌<◌, ◌≤◌, ℕ, List, [], ◌++◌, length, Option, Some}
-use Rattle.std.proofs.Common.{None, Result, Ok, Err, refl, sym, ap, subst, ◌∙◌, arith}
+use Rattle.std.proofs.Common.{None, IfSome, ℤ, pos, ◌≤ℤ◌, Result, Ok, Err, refl, sym, ap, subst, ◌∙◌, arith}
 use Rattle.ptb_text.specs.Statements.{StoredProgram}
 use Rattle.ptb_answers.specs.declared.chooser.Chooser as choosers
 use Rattle.ptb_answers.specs.declared.rules.Rules.{Rules}
@@ -21,7 +21,7 @@ use Rattle.ptb_machine.specs.declared.fault.RunFault.TheVariants as faults
 use Rattle.ptb_machine.specs.Play.{next_number}
 use Rattle.ptb_machine.specs.RunDevices.{RunDevices, held, refusals}
 use Rattle.ptb_machine.specs.declared.run_end.RunEnd.{RunEnd}
-use Rattle.ptb_machine.specs.Runs.{IsCompleteRun, IsRunToEnd, StopsAt}
+use Rattle.ptb_machine.specs.Runs.{IsCompleteRun, IsRunToEnd, StopsAt, choosing}
 use Rattle.ptb_machine.specs.Steps.{IsTurn, PlainTurns, DoesStep, step_miss}
 use Rattle.ptb_machine.proofs.Ends.{end_over}
 use Rattle.ptb_machine.proofs.Runs.{HasRun, run_begins, run_advanced, run_on, run_falls, run_over}
@@ -33,18 +33,19 @@ pub record IsUnderway {C S L : Type 0} (chooser : choosers.Ghosts C) (screen : s
     (first now : RunDevices C S L) : Type 0 where
   pub given : List (List ℕ)
   pub gives : source.gives first.source given now.source
-  pub run : HasRun p rules m (held chooser screen source rules first []) (held chooser screen source rules now given)
+  pub run : (choose : Option ℤ) (range : IfSome choose (λ n. pos 1 ≤ℤ n)) → HasRun p (choosing rules choose range) m
+      (held chooser screen source rules first []) (held chooser screen source rules now given)
   pub missed : NotMissed rules.choose (source.missed first.source) (source.missed now.source) (source.most now.source)
 
 module _ {C S L : Type 0} (chooser : choosers.Ghosts C) (screen : screens.Ghosts S) (source : sources.Ghosts L)
     (rules : Rules) (first : RunDevices C S L) where
   pub underway_first : (p : StoredProgram) (m : Configuration) → source.gives first.source [] first.source
-      → ((input : List (List ℕ)) → Represents p.lines m (first_state p input rules.choose))
+      → ((input : List (List ℕ)) (choose : Option ℤ) → Represents p.lines m (first_state p input choose))
       → IsUnderway chooser screen source p rules m first first
   underway_first p m gives represents = record {
     given = [];
     gives = gives;
-    run = run_begins p rules m _ refl represents;
+    run = λ choose range. run_begins p (choosing rules choose range) m _ refl (λ input. represents input choose);
     missed = not_missed rules.choose _ _ _ (omega arith);
   }
 
@@ -54,7 +55,7 @@ module _ {C S L : Type 0} (chooser : choosers.Ghosts C) (screen : screens.Ghosts
   underway_advanced p n old new now u turns = record {
     given = u.given;
     gives = u.gives;
-    run = run_advanced p rules n old new _ _ refl u.run turns;
+    run = λ choose range. run_advanced p (choosing rules choose range) n old new _ _ (u.run choose range) turns;
     missed = u.missed;
   }
 
@@ -87,14 +88,16 @@ module _ {C S L : Type 0} (chooser : choosers.Ghosts C) (screen : screens.Ghosts
     underway_on e = record {
       given = u.given ++ turn.given;
       gives = gives;
-      run = run_on (refusals chooser screen source last) p rules m n _ (held chooser screen source rules now u.given)
-          (held chooser screen source rules last turn.given) refl falls u.run (steps_as (Ok None) e);
+      run = λ choose range. run_on (refusals chooser screen source last) p (choosing rules choose range) m n _
+          (held chooser screen source rules now u.given) (held chooser screen source rules last turn.given) refl falls
+          (u.run choose range) (steps_as (Ok None) e);
       missed = missed_as (Ok None) e;
     }
 
     pub underway_falls : r ≡ Ok None → rules.limit - n.steps < rules.limit - m.steps
     underway_falls e = run_falls (refusals chooser screen source last) p rules m n _ (held chooser screen source rules
-        now u.given) (held chooser screen source rules last turn.given) refl falls u.run (steps_as (Ok None) e)
+        now u.given) (held chooser screen source rules last turn.given) refl falls
+        (u.run rules.choose rules.in_range) refl (steps_as (Ok None) e)
 
     -- it is over
     pub underway_over : (ending : Ending) → r ≡ Ok (Some ending)
@@ -102,8 +105,9 @@ module _ {C S L : Type 0} (chooser : choosers.Ghosts C) (screen : screens.Ghosts
     underway_over ending e = record {
       given = u.given ++ turn.given;
       gives = gives;
-      runs = run_over (refusals chooser screen source last) p rules m n _ (held chooser screen source rules now u.given)
-          (held chooser screen source rules last turn.given) refl falls u.run ending (steps_as (Ok (Some ending)) e);
+      runs = λ choose range. run_over (refusals chooser screen source last) p (choosing rules choose range) m n _
+          (held chooser screen source rules now u.given) (held chooser screen source rules last turn.given) refl falls
+          (u.run choose range) ending (steps_as (Ok (Some ending)) e);
       missed = missed_as (Ok (Some ending)) e;
     }
 
@@ -113,9 +117,9 @@ module _ {C S L : Type 0} (chooser : choosers.Ghosts C) (screen : screens.Ghosts
     underway_broken fault e unspent = record {
       given = u.given ++ turn.given;
       gives = gives;
-      runs = run_breaks (refusals chooser screen source last) p rules m n _
+      runs = λ choose range. run_breaks (refusals chooser screen source last) p (choosing rules choose range) m n _
           (held chooser screen source rules now u.given) (held chooser screen source rules last turn.given) refl falls
-          u.run fault unspent (steps_as (Err fault) e);
+          (u.run choose range) fault unspent (steps_as (Err fault) e);
       missed = missed_as (Err fault) e;
     }
 
@@ -123,12 +127,12 @@ module _ {C S L : Type 0} (chooser : choosers.Ghosts C) (screen : screens.Ghosts
     pub underway_stops : (line : Option ℕ)
         → ((q : Option Place) → PlacesAre p.lines q n.place → line ≡ next_number p.lines q)
         → r ≡ Ok (Some endings.Limit)
-        → (rest : List (List ℕ)) → MayFollow (held chooser screen source rules last turn.given) rest
+        → (rest : List (List ℕ)) → MayFollow (held chooser screen source rules last turn.given) rest rules.choose
         → StopsAt p rules ((u.given ++ turn.given) ++ rest) (held chooser screen source rules first [])
         (held chooser screen source rules last (u.given ++ turn.given)) line
     underway_stops line is e rest follow =
         run_stops (refusals chooser screen source last) p rules m n _ (held chooser screen source rules now u.given)
-        (held chooser screen source rules last turn.given) refl falls u.run line is
+        (held chooser screen source rules last turn.given) refl falls (u.run rules.choose rules.in_range) line is
         (steps_as (Ok (Some endings.Limit)) e) rest follow
 
     -- with the line of its end

@@ -37,7 +37,7 @@ use Rattle.ptb_command.specs.declared.ending.Ending.TheVariants as endings
 use Rattle.ptb_machine.specs.declared.fault.RunFault.{RunFault}
 use Rattle.ptb_machine.specs.Play.{plain}
 use Rattle.ptb_machine.specs.MemoryNotes.{noted_result}
-use Rattle.ptb_machine.specs.PlainRuns.{IsUnreadable, ShowsRun, ShowsQuestion, ShowsUnread}
+use Rattle.ptb_machine.specs.PlainRuns.{IsUnreadable, ShowsRun, ShowsQuestion}
 use Rattle.ptb_machine.specs.CommandResults.{fault_of_device}
 use Rattle.ptb_machine.specs.PlainRuns.{lines_come, lines_taken, ending_wanted, lines_wanted}
 use Rattle.ptb_machine.specs.PlainRuns.{ReadsFor}
@@ -341,17 +341,21 @@ wanted_at_fault a most rules fault e = by_choose rules.choose where
     by_all true = omega (arith, fits, asked_one a)
     by_all false = let within = fault_within a fault e k in omega (arith, fits, within)
 
--- where a fault has come, a line was asked for without success, though more could have come
-pub fault_missed : (a : InputState) (choose : Option ℤ) (fault : DeviceFault) → fault_at a.end ≡ Some fault
-    → NotMissed choose 0 (asked a) (most_lines a) → ⊥
-fault_missed a None fault e m = fault_asked a fault e m
-fault_missed a (Some n) fault e (inl q) = fault_asked a fault e q
-fault_missed a (Some n) fault e (inr none) = by_end a.end e (omega (arith, none)) where
+-- where a fault has come, more lines could have come
+pub more_at_fault : (a : InputState) (fault : DeviceFault) → fault_at a.end ≡ Some fault → most_lines a ≡ 0 → ⊥
+more_at_fault a fault e none = by_end a.end e (omega (arith, none)) where
   by_end : (end : InputEnd) → fault_at end ≡ Some fault → most_to_come end a.left ≡ 0 → ⊥
   by_end Open e h = absurd (let clash : None ≡ Some fault = e in cc)
   by_end Ended e h = absurd (let clash : None ≡ Some fault = e in cc)
   by_end Failed e h = omega (arith, h)
   by_end Exceeded e h = omega (arith, h)
+
+-- and one was asked for without success
+pub fault_missed : (a : InputState) (choose : Option ℤ) (fault : DeviceFault) → fault_at a.end ≡ Some fault
+    → NotMissed choose 0 (asked a) (most_lines a) → ⊥
+fault_missed a None fault e m = fault_asked a fault e m
+fault_missed a (Some n) fault e (inl q) = fault_asked a fault e q
+fault_missed a (Some n) fault e (inr none) = more_at_fault a fault e none
 
 -- the answers by which a run goes may hang on its lines
 module _ (p : StoredProgram) (rules : Rules) (a : List (List ℕ) → Answers) (wanted x f : ℕ) (n : InputNow)
@@ -459,14 +463,14 @@ of_input P wanted x f n given each (Some c) on =
     let b = lines_after wanted c x f n given on in
     subst P (sym b.whole) (each b.rest b.none)
 
--- on the lines that came complete, where a fault has come, it ends for lack of a line, or would ask for an answer
+-- on the lines that came complete, where a fault has come, it ends for lack of a line
 pub shows_come : {W : Type 0} (contents : W → Option (List ℕ)) (written : W → ℕ) (p : StoredProgram) (rules : Rules)
     (a : List (List ℕ) → Answers) (w v : W) (wanted x f : ℕ) (n : InputNow) (given : List (List ℕ))
     (known : Option (List ℕ)) (on : ReadsOn wanted (fresh known x f) given n) (fault : DeviceFault)
     → fault_at n.state.end ≡ Some fault → IsUnreadBetween contents written p rules (given ++ []) (a (given ++ [])) w v
-    → ShowsUnread rules.choose (plain p (lines_come on.taken) rules) (a (lines_come on.taken)) (contents w) (contents v)
+    → ShowsRun (plain p (lines_come on.taken) rules (a (lines_come on.taken))) (contents w) (contents v) endings.NoInput
 shows_come contents written p rules a w v wanted x f n given known on fault is run =
-    subst (λ i. ShowsUnread rules.choose (plain p i rules) (a i) (contents w) (contents v))
+    subst (λ i. ShowsRun (plain p i rules (a i)) (contents w) (contents v) endings.NoInput)
     (sym (came_whole wanted known x f n given on fault is)) run.shows
 
 -- ---- how a run has ended

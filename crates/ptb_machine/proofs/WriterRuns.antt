@@ -2,12 +2,13 @@
 -- over a writer and a list of lines.
 -- Main lemma: `run_between`.
 use Rattle.std.proofs.Common.{◌≡◌, ℕ, ◌+◌, ◌≤◌, ◌⊎◌, inl, inr, Bool, true, false, List, [], ◌++◌}
-use Rattle.std.proofs.Common.{length, take, Option, Some, None, Result, Ok, Err, IfOk, IsErrOf, ℤ}
+use Rattle.std.proofs.Common.{length, take, Option, Some, None, IfSome, Result, Ok, Err, IfOk, IsErrOf, ℤ, pos, ◌≤ℤ◌}
 use Rattle.std.proofs.Common.{refl, sym, ap, subst, ◌∙◌, arith, append-nil, length-append}
 use Rattle.std.specs.Borrow.{MutBor}
 use Rattle.std.specs.Io.KnownBytes.{Appends}
 use Rattle.std.proofs.KnownBytes.{Appends-nil}
 use Rattle.std.proofs.Math.Seq.{take-append_seam}
+use Rattle.std.proofs.lemmas.List.{append_cancel_left}
 use Rattle.ptb_text.specs.Device.{HasFailed, TakesSome}
 use Rattle.ptb_text.specs.Statements.{StoredProgram}
 use Rattle.ptb_answers.specs.declared.pause.Pause.{Pause}
@@ -31,10 +32,9 @@ use Rattle.ptb_command.specs.Devices.{ScreenState, Devices, devices, with_failur
 use Rattle.ptb_command.specs.Stops.{UnlessMissed}
 use Rattle.ptb_machine.specs.PlayResults.{played_bytes, Plays, IsFinished, IsUnanswered}
 use Rattle.ptb_machine.specs.PlayResults.{IsUnfinished, LacksInput, RunComes}
-use Rattle.ptb_machine.specs.Runs.{run_miss, Runs, StopsAt, IsLineOf}
-use Rattle.ptb_machine.proofs.Endings.{HasRunEnding, play_ends}
+use Rattle.ptb_machine.specs.Runs.{run_miss, Runs, StopsAt, IsLineOf, choosing}
 use Rattle.ptb_machine.specs.MemoryNotes.{ended_for, noted, noted_result}
-use Rattle.ptb_machine.specs.PlainRuns.{ShowsRun, ShowsQuestion, ShowsUnread, lines_taken, IsLed, GoesBy}
+use Rattle.ptb_machine.specs.PlainRuns.{ShowsRun, ShowsQuestion, lines_taken, IsLed, GoesBy, without_choose}
 
 -- ---- lists
 
@@ -74,14 +74,21 @@ pub record IsPlainRun (p : StoredProgram) (rules : Rules) (lines : List (List �
 pub record IsUnreadRun (p : StoredProgram) (rules : Rules) (lines : List (List ℕ)) (a : Answers)
     (old new : ScreenState) : Type 0 where
   pub same_borrow : new.borrow ≡ old.borrow
-  pub shows : ShowsUnread rules.choose (plain p lines rules) a old.shown new.shown
+  pub shows : ShowsRun (plain p lines rules a) old.shown new.shown endings.NoInput
   pub unfailed : new.failures ≡ old.failures
 
+-- what a chooser has answered that is to answer `a`
+record WasLed (refuses : Pause → ℤ → Type 0) (a : Answers) (c d : Choices) : Type 0 where
+  pub taken : Answers
+  pub bounds : List ℤ
+  pub grown : d ≡ with_answers taken bounds c
+  pub is : IsLed refuses taken a
+
 -- a source of lines gave some, and these come after them; it says what holds after its refusals, and whether the
--- chooser noted that it was refused memory
+-- chooser noted that it was refused memory; the devices ask for an answer with this bound where none is left
 module _ (p : StoredProgram) (rules : Rules) (a : Answers) (refuses : Pause → ℤ → Type 0) (noticed : Bool)
-    (c d : Choices) (old new : ScreenState) (could can : ℕ) (given following : List (List ℕ)) (unread : DeviceFault
-    → Type 0) (left : Option (List (List ℕ)))
+    (c d : Choices) (old new : ScreenState) (could can : ℕ) (bound : Option ℤ) (given following : List (List ℕ))
+    (unread : DeviceFault → Type 0) (left : Option (List (List ℕ)))
     (led : (taken : Answers) (bounds : List ℤ) → AsksFor (play p (given ++ following) rules) taken bounds
     → d ≡ with_answers taken bounds c → IsLed refuses taken a) where
   abbrev refused : Refusal → Type 0
@@ -91,10 +98,10 @@ module _ (p : StoredProgram) (rules : Rules) (a : Answers) (refuses : Pause → 
   lines = given ++ following
 
   abbrev before : Devices
-  before = devices c old could rules.choose []
+  before = devices c old could bound []
 
   abbrev later : Devices
-  later = devices d new can rules.choose given
+  later = devices d new can bound given
 
   -- what is left of the answers after those that were taken, however often the writer has failed
   left_by : (failures : ℕ) (x : Exchange) (left : Answers → Outcome Finish (List ℕ))
@@ -333,64 +340,78 @@ module _ (p : StoredProgram) (rules : Rules) (a : Answers) (refuses : Pause → 
   takes_given e no_memory none (Err runs.Write) h = fits_unfinished errors.Write h
   takes_given e no_memory none (Err runs.Spent) h = absurd h
 
-  -- where it asked for a line that it wasn't given, and these are all lines, it ends for lack of it, or would ask for
-  -- an answer
-  unread_shows : {e : Ending} → IsPlainRun p rules lines a refuses old new (Ok e)
-      → ShowsUnread rules.choose (plain p lines rules) a old.shown new.shown → IsUnreadRun p rules lines a old new
-  unread_shows run shows = record { same_borrow = run.same_borrow; shows = shows; unfailed = run.unfailed (λ f. cc) }
+  -- ---- a line that it wasn't given
 
-  -- an ending for lack of a line
-  lacks_line : (choose : Option ℤ) → rules.choose ≡ choose
-      → IsFinished refused p rules lines before later endings.NoInput
-      → IsPlainRun p rules lines a refuses old new (Ok endings.NoInput)
-      → ShowsUnread choose (plain p lines rules) a old.shown new.shown
-  lacks_line None is h run = run.ok
-  lacks_line (Some n) is h run =
-      let none : rules.choose ≡ None = subst (λ (o : Outcome Finish (List ℕ)). HasRunEnding rules.choose o)
-      (ap (λ (f : Answers → Outcome Finish (List ℕ)). f []) h.plays.leaves.rest)
-      (play_ends p lines rules (h.exchange.answers ++ [])) in
-      absurd (let clash : Some n ≡ None = sym is ∙ none in cc)
+  -- with no others after these lines
+  to_end : {e : Ending} → following ≡ [] → IsFinished refused p rules given before later e
+      → IsFinished refused p rules lines before later e
+  to_end {e = e} none h =
+      let all : lines ≡ given = ap (λ r. given ++ r) none ∙ append-nil given in
+      subst (λ i. IsFinished refused p rules i before later e) (sym all) h
 
-  dry_ending : IsFinished refused p rules lines before later endings.NoInput → IsUnreadRun p rules lines a old new
-  dry_ending h = let run = finished endings.NoInput h in unread_shows run (lacks_line rules.choose refl h run)
-
-  -- a line that can't be read
-  asks_instead : (n : ℤ) (h : IsUnfinished refused p rules lines before later errors.Read)
-      → h.left [] ≡ Asks n h.exchange.bytes
-      → ShowsUnread (Some n) (plain p lines rules) a old.shown new.shown
-  asks_instead n h asks = (begun h, (h.exchange.answers, shows_question old.failures n h.exchange h.left h.plays asks))
-
-  unread_line : (choose : Option ℤ) → rules.choose ≡ choose
-      → (h : IsUnfinished refused p rules lines before later errors.Read)
-      → LacksInput refused p rules lines before later choose h.exchange.bytes h.left
-      → IsUnreadRun p rules lines a old new
-  unread_line None is h lacks = dry_ending lacks
-  unread_line (Some n) is h lacks = record {
-    same_borrow = h.plays.exchanges.shows.same_borrow;
-    shows = subst (λ b. ShowsUnread b (plain p lines rules) a old.shown new.shown) (sym is) (asks_instead n h lacks);
-    unfailed = h.broken.1;
+  finished_led : {e : Ending} → IsFinished refused p rules lines before later e → WasLed refuses a c d
+  finished_led h = record {
+    taken = h.exchange.answers;
+    bounds = h.exchange.bounds;
+    grown = h.plays.exchanges.grown;
+    is = left_by new.failures h.exchange _ h.plays;
   }
 
-  pub ends_dry : (P : Type 0) → (P → ⊥) → (unread reads.Memory → ⊥) → following ≡ [] → (result : Result Ending RunFault)
-      → UnlessMissed unread P (run_miss result)
-      → RunComes refused p rules following before later result → IsUnreadRun p rules lines a old new
-  ends_dry P never no_memory none (Ok endings.End) m h = absurd (never m)
-  ends_dry P never no_memory none (Ok endings.Stop) m h = absurd (never m)
-  ends_dry P never no_memory none (Ok endings.What) m h = absurd (never m)
-  ends_dry P never no_memory none (Ok endings.How) m h = absurd (never m)
-  ends_dry P never no_memory none (Ok endings.Sorry) m h = absurd (never m)
-  ends_dry P never no_memory none (Ok endings.Limit) m h = absurd (never m)
-  ends_dry P never no_memory none (Ok endings.NoInput) m h =
-      let all : lines ≡ given = ap (λ r. given ++ r) none ∙ append-nil given in
-      dry_ending (subst (λ i. IsFinished refused p rules i before later endings.NoInput) (sym all) (h.1 none))
-  ends_dry P never no_memory none (Ok endings.NoAnswer) m h = absurd (never m)
-  ends_dry P never no_memory none (Ok endings.BadAnswer) m h = absurd (never m)
-  ends_dry P never no_memory none (Err runs.Memory) m h =
-      elim m [ inl q ↦ absurd (never q) | inr r ↦ absurd (no_memory r) ]
-  ends_dry P never no_memory none (Err runs.Read) m h =
-      unread_line rules.choose refl h (h.dry refl (ap (λ r. given ++ r) none ∙ append-nil given))
-  ends_dry P never no_memory none (Err runs.Write) m h = absurd (never m)
-  ends_dry P never no_memory none (Err runs.Spent) m h = absurd h
+  unread_led : IsUnfinished refused p rules lines before later errors.Read → WasLed refuses a c d
+  unread_led h = record {
+    taken = h.exchange.answers;
+    bounds = h.exchange.bounds;
+    grown = h.plays.exchanges.grown;
+    is = left_by old.failures h.exchange h.left h.plays;
+  }
+
+  -- it asked for one, and these are all lines: so it ends for lack of it, where no answer is asked for instead
+  dry_ending : IsFinished refused p rules lines before later endings.NoInput → IsUnreadRun p rules lines a old new
+  dry_ending h =
+      let run = finished endings.NoInput h in
+      record { same_borrow = run.same_borrow; shows = run.ok; unfailed = run.unfailed (λ f. cc) }
+
+  unread_ending : rules.choose ≡ None → IsUnfinished refused p rules lines before later errors.Read → lines ≡ given
+      → IsFinished refused p rules lines before later endings.NoInput
+  unread_ending ends h all =
+      subst (λ (choose : Option ℤ). LacksInput refused p rules lines before later choose h.exchange.bytes h.left) ends
+      (h.dry refl all)
+
+  module _ (P : Type 0) (never : P → ⊥) (no_memory : unread reads.Memory → ⊥) (none : following ≡ []) where
+    all_given : lines ≡ given
+    all_given = ap (λ r. given ++ r) none ∙ append-nil given
+
+    was_led : (result : Result Ending RunFault) → UnlessMissed unread P (run_miss result)
+        → RunComes refused p rules following before later result → WasLed refuses a c d
+    was_led (Ok endings.End) m h = absurd (never m)
+    was_led (Ok endings.Stop) m h = absurd (never m)
+    was_led (Ok endings.What) m h = absurd (never m)
+    was_led (Ok endings.How) m h = absurd (never m)
+    was_led (Ok endings.Sorry) m h = absurd (never m)
+    was_led (Ok endings.Limit) m h = absurd (never m)
+    was_led (Ok endings.NoInput) m h = finished_led (to_end none (h.1 none))
+    was_led (Ok endings.NoAnswer) m h = absurd (never m)
+    was_led (Ok endings.BadAnswer) m h = absurd (never m)
+    was_led (Err runs.Memory) m h = elim m [ inl q ↦ absurd (never q) | inr r ↦ absurd (no_memory r) ]
+    was_led (Err runs.Read) m h = unread_led h
+    was_led (Err runs.Write) m h = absurd (never m)
+    was_led (Err runs.Spent) m h = absurd h
+
+    ends_dry : rules.choose ≡ None → (result : Result Ending RunFault) → UnlessMissed unread P (run_miss result)
+        → RunComes refused p rules following before later result → IsUnreadRun p rules lines a old new
+    ends_dry ends (Ok endings.End) m h = absurd (never m)
+    ends_dry ends (Ok endings.Stop) m h = absurd (never m)
+    ends_dry ends (Ok endings.What) m h = absurd (never m)
+    ends_dry ends (Ok endings.How) m h = absurd (never m)
+    ends_dry ends (Ok endings.Sorry) m h = absurd (never m)
+    ends_dry ends (Ok endings.Limit) m h = absurd (never m)
+    ends_dry ends (Ok endings.NoInput) m h = dry_ending (to_end none (h.1 none))
+    ends_dry ends (Ok endings.NoAnswer) m h = absurd (never m)
+    ends_dry ends (Ok endings.BadAnswer) m h = absurd (never m)
+    ends_dry ends (Err runs.Memory) m h = elim m [ inl q ↦ absurd (never q) | inr r ↦ absurd (no_memory r) ]
+    ends_dry ends (Err runs.Read) m h = dry_ending (unread_ending ends h all_given)
+    ends_dry ends (Err runs.Write) m h = absurd (never m)
+    ends_dry ends (Err runs.Spent) m h = absurd h
 
   pub run_comes : old.takes_memory ≡ false → (unread reads.Memory → ⊥) → (NoneLeft left → following ≡ [])
       → (result : Result Ending RunFault)
@@ -415,29 +436,52 @@ module _ (p : StoredProgram) (rules : Rules) (answers : List (List ℕ) → Answ
     (noticed : Bool) (c d : Choices) (old new : ScreenState) (could can : ℕ) (given : List (List ℕ))
     (unread : DeviceFault → Type 0) (left : Option (List (List ℕ)))
     (result : Result Ending RunFault) (goes : GoesBy refuses c d answers p rules)
-    (h : Runs (refused_by (noted noticed refuses) unread left) p rules (devices c old could rules.choose [])
-    (devices d new can rules.choose given) result) (over : can ≡ 0 → NoneLeft left) where
+    (h : (choose : Option ℤ) (range : IfSome choose (λ n. pos 1 ≤ℤ n))
+    → Runs (refused_by (noted noticed refuses) unread left) p (choosing rules choose range)
+    (devices c old could rules.choose []) (devices d new can rules.choose given) result)
+    (over : can ≡ 0 → NoneLeft left) where
+  run_is : (following : List (List ℕ)) → (NoneLeft left → following ≡ [])
+      → RunComes (refused_by (noted noticed refuses) unread left) p rules following
+      (devices c old could rules.choose []) (devices d new can rules.choose given) result
+  run_is following none = h rules.choose rules.in_range following (λ e. (none (over e), refl))
+
   pub led_run : old.takes_memory ≡ false → (unread reads.Memory → ⊥) → (following : List (List ℕ))
       → (NoneLeft left → following ≡ [])
       → IsPlainRun p rules (given ++ following) (answers (given ++ following)) refuses old new
       (noted_result noticed result)
   led_run no_room no_memory following none =
-      run_comes p rules (answers (given ++ following)) refuses noticed c d old new could can given following unread left
-      (goes (given ++ following)) no_room no_memory none result (h following (λ e. none (over e)))
+      run_comes p rules (answers (given ++ following)) refuses noticed c d old new could can rules.choose given
+      following unread left (goes (given ++ following)) no_room no_memory none result (run_is following none)
 
   pub led_run_takes : old.takes_memory ≡ false → (unread reads.Memory → ⊥) → (following : List (List ℕ))
       → (NoneLeft left → following ≡ [])
       → length given ≤ lines_taken p (given ++ following) rules (answers (given ++ following))
   led_run_takes no_room no_memory following none =
-      takes_given p rules (answers (given ++ following)) refuses noticed c d old new could can given following unread
-      left
-      (goes (given ++ following)) no_room no_memory none result (h following (λ e. none (over e)))
+      takes_given p rules (answers (given ++ following)) refuses noticed c d old new could can rules.choose given
+      following unread left (goes (given ++ following)) no_room no_memory none result (run_is following none)
 
-  pub led_run_dry : (unread reads.Memory → ⊥) → (P : Type 0) → (P → ⊥) → UnlessMissed unread P (run_miss result)
-      → IsUnreadRun p rules (given ++ []) (answers (given ++ [])) old new
-  led_run_dry no_memory P never missed =
-      ends_dry p rules (answers (given ++ [])) refuses noticed c d old new could can given [] unread left
-      (goes (given ++ [])) P never no_memory refl result missed (h [] (λ _. refl))
+  -- it asked for a line that may come, and was not given it: with no others, it is the run that ends for lack of it
+  module _ (no_memory : unread reads.Memory → ⊥) (P : Type 0) (never : P → ⊥)
+      (missed : UnlessMissed unread P (run_miss result)) where
+    was : WasLed refuses (answers (given ++ [])) c d
+    was = was_led p rules (answers (given ++ [])) refuses noticed c d old new could can rules.choose given [] unread
+        left (goes (given ++ [])) P never no_memory refl result missed (run_is [] (λ _. refl))
+
+    -- so it takes the same answers
+    same_led : (taken : Answers) (bounds : List ℤ)
+        → AsksFor (play p (given ++ []) (without_choose rules)) taken bounds → d ≡ with_answers taken bounds c
+        → IsLed refuses taken (answers (given ++ []))
+    same_led taken bounds asked grown =
+        let same : was.taken ≡ taken = append_cancel_left c.taken was.taken taken
+        (ap (λ (y : Choices). y.taken) (sym was.grown ∙ grown)) in
+        subst (λ (t : Answers). IsLed refuses t (answers (given ++ []))) same was.is
+
+    pub led_run_dry : (can ≡ 0 → ⊥)
+        → IsUnreadRun p (without_choose rules) (given ++ []) (answers (given ++ [])) old new
+    led_run_dry more =
+        ends_dry p (without_choose rules) (answers (given ++ [])) refuses noticed c d old new could can rules.choose
+        given [] unread left same_led P never no_memory refl refl result missed
+        (h None tt [] (λ e. absurd (more e)))
 
 -- the line of its end is that of the play
 module _ (p : StoredProgram) (rules : Rules) (answers : List (List ℕ) → Answers) (refuses : Pause → ℤ → Type 0)
@@ -449,8 +493,8 @@ module _ (p : StoredProgram) (rules : Rules) (answers : List (List ℕ) → Answ
   pub led_line : end.ending ≡ endings.Limit → (following : List (List ℕ)) → (NoneLeft left → following ≡ [])
       → end.line ≡ stopping_line p (given ++ following) rules (answers (given ++ following))
   led_line is following none =
-      stops_at p rules (answers (given ++ following)) refuses noticed c d old new could can given following unread left
-      (goes (given ++ following)) end.line (h.at_limit is following (λ e. none (over e)))
+      stops_at p rules (answers (given ++ following)) refuses noticed c d old new could can rules.choose given following
+      unread left (goes (given ++ following)) end.line (h.at_limit is following (λ e. (none (over e), refl)))
 
 -- ---- the screen of a writer
 
@@ -501,7 +545,7 @@ run_between contents failures p rules ls a refuses screen screen_after w v resul
 -- what is said of a run that couldn't read a line, between two states of its writer
 pub record IsUnreadBetween {W : Type 0} (contents : W → Option (List ℕ)) (failures : W
     → ℕ) (p : StoredProgram) (rules : Rules) (ls : List (List ℕ)) (a : Answers) (w v : W) : Type 0 where
-  pub shows : ShowsUnread rules.choose (plain p ls rules) a (contents w) (contents v)
+  pub shows : ShowsRun (plain p ls rules a) (contents w) (contents v) endings.NoInput
   pub unfailed : failures v ≡ failures w
 
 pub unread_between : {W : Type 0} (contents : W → Option (List ℕ)) (failures : W → ℕ) (p : StoredProgram)

@@ -5,7 +5,7 @@
 --     IsUnreadable known old new the input could not be read, or is too long
 --     IsLed refuses taken all    what a chooser is to answer begins with what it has answered
 --     GoesBy refuses c d answers p rules    a chooser goes by these answers on the lines of each input
---     ShowsUnread choose run a old new    what was shown of a run that couldn't read a line
+--     without_choose rules       the rules by which no answer is asked for instead of a line
 --     ShowsQuestion run all old new       with the first of these answers a run asks, and what it shows until then was
 --                                         shown
 --     lines_taken p lines rules a    how many of the lines of its input a run takes
@@ -73,12 +73,9 @@ GoesBy refuses c d answers p rules =
 
 -- ---- a line that can't be read
 
--- On the lines that came complete, a run ends for lack of the next one. With answers instead of lines it would ask
--- for one: what was shown is all that it shows before, and so a prefix of what it shows with the answers `a`.
-abbrev pub ShowsUnread : Option ℤ → (Answers → List ℕ × Ending) → Answers → Option (List ℕ) → Option (List ℕ) → Type 0
-ShowsUnread None run a old new = ShowsRun (run a) old new endings.NoInput
-ShowsUnread (Some n) run a old new =
-    TakesSome old new (run a).0 × ((asked : Answers) × ShowsRun (run asked) old new endings.NoAnswer)
+-- the same rules, by which a run ends where no line is left
+abbrev pub without_choose : Rules → Rules
+without_choose rules = record rules { choose = None; in_range = tt }
 
 -- ---- an answer for which there is no memory
 
@@ -147,10 +144,12 @@ pub record PlaysWith {R : Type 0} (p : StoredProgram) (rules : Rules) (answers :
   pub broken_off : OnErr result
       (IfSome input.bytes
       (λ c. TakesSome out.before out.after (plain p (input_lines c) rules (answers (input_lines c))).0))
-  -- Where a line could not be read, it is what the play on the lines that came complete shows.
+  -- Where a line could not be read, it is what the play on the lines that came complete shows, which ends for lack of
+  -- the next one: no answer is asked for instead of a line that may come.
   pub unread : IsErrOf result runs.Read
-      → (taken : List ℕ) × Consumes input.bytes input.left taken × ShowsUnread rules.choose
-      (plain p (lines_come taken) rules) (answers (lines_come taken)) out.before out.after
+      → (taken : List ℕ) × Consumes input.bytes input.left taken
+      × ShowsRun (plain p (lines_come taken) (without_choose rules) (answers (lines_come taken))) out.before out.after
+      endings.NoInput
   -- The input was read on only while fewer lines were complete than the play asks for.
   pub asked : (taken : List ℕ) × Consumes input.bytes input.left taken
       × IfSome input.bytes (λ c. ReadsFor taken (lines_wanted rules.choose (length (input_lines c))

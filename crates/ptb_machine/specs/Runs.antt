@@ -4,12 +4,13 @@
 -- Main definition: `IsCompleteRun`.
 --     IsCompleteRun .. p rules o n r          all that a run promises: with devices o, then n, it has the result r
 --     Runs refused p rules o n r      the same, by what the devices hold
+--     choosing rules choose range     the rules with another bound of INPUT
 --     run_miss r                      whether the result reports that a line was asked for without success
 --     IsRunToEnd .. p rules o n r     a run whose result has the line of its end
 --     IsLineOf p rules o n end        that line is the one at which the limit stopped the run
 --     StopsAt p rules input o n line  the play has stopped there
 --     ending_alone r                  the result of a run, without the line of its end
-use Rattle.std.specs.Prelude.{◌≡◌, ℕ, List, [], ◌++◌, Result, Ok, Err, IfOk, Option, Some, None}
+use Rattle.std.specs.Prelude.{◌≡◌, ◌≤ℤ◌, ℕ, ℤ, pos, List, [], ◌++◌, Result, Ok, Err, IfOk, IfSome, Option, Some, None}
 use Rattle.ptb_text.specs.Statements.{StoredProgram}
 use Rattle.ptb_answers.specs.declared.chooser.Chooser as choosers
 use Rattle.ptb_answers.specs.declared.rules.Rules.{Rules}
@@ -29,7 +30,12 @@ use Rattle.ptb_machine.specs.Steps.{step_miss}
 
 -- o is to have no lines given
 abbrev pub Runs : (Refusal → Type 0) → StoredProgram → Rules → Devices → Devices → Result Ending RunFault → Type 0
-Runs refused p rules o n r = (rest : List (List ℕ)) → MayFollow n rest → RunComes refused p rules rest o n r
+Runs refused p rules o n r =
+    (rest : List (List ℕ)) → MayFollow n rest rules.choose → RunComes refused p rules rest o n r
+
+-- the same rules, by which INPUT asks for an answer with this bound where no line is left, if there is one
+abbrev pub choosing : Rules → (choose : Option ℤ) → IfSome choose (λ n. pos 1 ≤ℤ n) → Rules
+choosing rules choose range = record rules { choose = choose; in_range = range }
 
 -- that of its last step
 abbrev pub run_miss : Result Ending RunFault → Miss
@@ -42,8 +48,10 @@ pub record IsCompleteRun {C S L : Type 0} (chooser : choosers.Ghosts C) (screen 
   -- the lines that the source gave
   pub given : List (List ℕ)
   pub gives : source.gives o.source given n.source
+  -- whichever bound it is, as long as the source can give more lines
   pub runs :
-      Runs (refusals chooser screen source n) p rules
+      (choose : Option ℤ) (range : IfSome choose (λ n. pos 1 ≤ℤ n))
+      → Runs (refusals chooser screen source n) p (choosing rules choose range)
       (held chooser screen source rules o []) (held chooser screen source rules n given) r
   pub missed : ReportsMissed source rules.choose o.source n.source (run_miss r)
 
@@ -63,7 +71,7 @@ pub record StopsAt (p : StoredProgram) (rules : Rules) (input : List (List ℕ))
 
 -- no other ending has a line
 pub record IsLineOf (p : StoredProgram) (rules : Rules) (o n : Devices) (end : RunEnd) : Type 0 where
-  pub at_limit : end.ending ≡ endings.Limit → (rest : List (List ℕ)) → MayFollow n rest
+  pub at_limit : end.ending ≡ endings.Limit → (rest : List (List ℕ)) → MayFollow n rest rules.choose
       → StopsAt p rules (n.given ++ rest) o n end.line
   pub elsewhere : ¬ (end.ending ≡ endings.Limit) → end.line ≡ None
 

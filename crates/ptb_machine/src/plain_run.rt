@@ -29,8 +29,7 @@ use std::alloc::Global;
 ///
 /// [`RunFault::Read`] where a line could not be read, or more than 16,777,216 bytes would have to
 /// be: on the lines that came complete the run ends for lack of a line, and the writer got what it
-/// shows. With answers instead of lines, the writer got what the run shows up to the question that
-/// this line would have answered.
+/// shows. So it is also with answers instead of lines: none stands for a line that may come.
 /// [`RunFault::Memory`] where a growth was refused memory: nothing was shown then.
 /// [`RunFault::Write`] where the writer failed: it got a prefix of what the run shows. Never
 /// [`RunFault::Spent`].

@@ -20,10 +20,11 @@ use Rattle.ptb_serve.specs.declared.note.Note.TheVariants as notes
 use Rattle.ptb_serve.specs.declared.service.Outcome.{Outcome}
 use Rattle.ptb_serve.specs.LoadedPrograms.{IsRunStatus, ReadsInput, ServesProgram, ReportsFailures}
 use Rattle.ptb_machine.specs.PlainRuns.{PlaysWith, ReadsLines, WantsMemory, ending_wanted, lines_come, lines_taken}
+use Rattle.ptb_machine.specs.PlainRuns.{without_choose}
 use Rattle.ptb_machine.specs.Streams.{Reads, Writes}
 use Rattle.ptb_serve.specs.Replies.{Reply, program_reply, program_reply_in_mode, run_reply}
 use Rattle.ptb_machine.specs.SeededRuns.{seeded_answers}
-use Rattle.ptb_serve.specs.ServedRequests.{AsksForMore, EndsUnread, IsInput, IsPlainRun, IsUnloaded}
+use Rattle.ptb_serve.specs.ServedRequests.{AsksForMore, LacksInputLine, IsInput, IsPlainRun, IsUnloaded}
 use Rattle.ptb_serve.specs.ServedRequests.{NeedsInput, NeedsWholeInput, ReadsForRun, Serves}
 use Rattle.ptb_serve.specs.ServedRequests.{ServesUnread, SilentBy, StopsForMemory, outcome_of}
 use Rattle.ptb_serve.proofs.ServedPrograms.{ReadsBy, outcome_wanted, asks_loaded, at_known, each_known, reads_loaded}
@@ -132,10 +133,9 @@ module _ {R : Type 0} (request : Request) (p : StoredProgram) (answers : StoredP
         (same_taken : (b c : List ℕ) (outcome : Outcome) → ReadsBy request (λ q lines. lines_taken q lines request.rules
         (answers q lines)) b c input.left outcome → ReadsForRun mode request b c input.left outcome)
         (same_unread : (b : List ℕ) → (taken : List ℕ) × Consumes input.bytes input.left taken
-        × EndsUnread request.rules.choose (program_reply request.memory b
-        (λ q. run_reply (plain q (lines_come taken) request.rules (answers q (lines_come taken)))))
-        (λ a. program_reply request.memory b (λ q. run_reply (plain q (lines_come taken) request.rules a))) out.before
-        out.after → ServesUnread mode request input.bytes input.left b out.before out.after) where
+        × LacksInputLine (program_reply request.memory b (λ q. run_reply (plain q (lines_come taken)
+        (without_choose request.rules) (answers q (lines_come taken))))) out.before out.after
+        → ServesUnread mode request input.bytes input.left b out.before out.after) where
       abbrev ServesAs : Result ℕ Note → Type 0
       ServesAs result = ServesProgram mode request p input.bytes input.left out.before out.after result
 
@@ -201,8 +201,9 @@ module _ {R : Type 0} (request : Request) (p : StoredProgram) (answers : StoredP
       unread_run : RanBy (Err faults.Read) → (b : List ℕ) → IsLoaded request.memory b p.lines
           → ServesUnread mode request input.bytes input.left b out.before out.after
       unread_run ran b l =
-          same_unread b (unread_loaded request.memory request.rules.choose (λ q lines. plain q lines request.rules)
-          answers p input.bytes input.left out.before out.after (Some b) l memory (ran.plays.unread refl))
+          same_unread b (unread_loaded request.memory
+          (λ q lines. plain q lines (without_choose request.rules) (answers q lines)) p input.bytes input.left
+          out.before out.after (Some b) l memory (ran.plays.unread refl))
 
       abbrev StopsBy : Result Ending RunFault → Type 0
       StopsBy r = (b c : List ℕ) → IsLoaded request.memory b p.lines → IsInput mode input.bytes c

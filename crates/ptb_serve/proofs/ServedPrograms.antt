@@ -14,8 +14,8 @@ use Rattle.ptb_text.specs.ProgramTexts.{IsLoaded, IsRefusedAt}
 use Rattle.ptb_text.specs.Statements.{Statements, StoredProgram, program_limit}
 use Rattle.ptb_text.specs.Lines.{input_lines}
 use Rattle.ptb_command.specs.declared.ending.Ending.{Ending}
+use Rattle.ptb_command.specs.declared.ending.Ending.TheVariants as endings
 use Rattle.ptb_machine.specs.declared.fault.RunFault.{RunFault}
-use Rattle.ptb_answers.specs.Outcome.{Answers}
 use Rattle.ptb_answers.specs.declared.form.Form.{Form}
 use Rattle.ptb_answers.specs.declared.form.Marked.{Marked}
 use Rattle.ptb_machine.specs.Play.{status}
@@ -28,11 +28,11 @@ use Rattle.ptb_serve.specs.declared.note.Note.{Note}
 use Rattle.ptb_serve.specs.declared.note.Note.TheVariants as notes
 use Rattle.ptb_serve.specs.declared.service.Outcome.{Outcome}
 use Rattle.ptb_serve.specs.Statuses.{note_status}
-use Rattle.ptb_machine.specs.PlainRuns.{ShowsRun, lines_come, ShowsUnread, ending_wanted, lines_taken}
+use Rattle.ptb_machine.specs.PlainRuns.{ShowsRun, lines_come, ending_wanted, lines_taken}
 use Rattle.ptb_machine.specs.PlainRuns.{lines_wanted, ReadsFor}
 use Rattle.ptb_machine.specs.Streams.{Reads, Writes, reads_of}
 use Rattle.ptb_serve.specs.Replies.{Reply, refusal, run_reply, program_of_text, reply_or_refusal, program_reply}
-use Rattle.ptb_serve.specs.ServedRequests.{outcome_of, EndsUnread, IsCheck, IsPlainRun, ReadsByNote}
+use Rattle.ptb_serve.specs.ServedRequests.{outcome_of, LacksInputLine, IsCheck, IsPlainRun, ReadsByNote}
 use Rattle.ptb_serve.specs.ServedRequests.{note_wanted, note_wanted_by, load_note, AsksForMore, IsUnloaded}
 use Rattle.ptb_serve.specs.ServedRequests.{ListsFewerOf, ReadsForRun, Replies, SamplesFewerOf, Serves}
 use Rattle.ptb_serve.specs.ServedRequests.{SilentBy, SilentWithoutMemory, SplitsFewerOf, StopsForMemory}
@@ -388,24 +388,17 @@ module _ (run : List (List ℕ) → List ℕ × Ending) (known : Option (List �
 
 -- ---- an input that can't be read
 
--- on the lines that came complete a run ends for lack of a line, or asks for an answer
-module _ (memory : ℕ) (choose : Option ℤ) (run : StoredProgram → List (List ℕ) → Answers → List ℕ × Ending)
-    (given : StoredProgram → List (List ℕ) → Answers) (p : StoredProgram) (i j old new : Option (List ℕ)) where
-  abbrev unread_run : StoredProgram → List (List ℕ) → Reply
-  unread_run q lines = run_reply (run q lines (given q lines))
-
-  ends_unread : (lines : List (List ℕ)) (c : Option ℤ) → ShowsUnread c (run p lines) (given p lines) old new
-      → EndsUnread c (unread_run p lines) (λ a. run_reply (run p lines a)) old new
-  ends_unread lines None h = record { bytes = h.bytes; status = sym (ap status h.ending) }
-  ends_unread lines (Some n) h =
-      record { begins = h.0; asked = h.1.0; bytes = h.1.1.bytes; status = sym (ap status h.1.1.ending) }
+-- on the lines that came complete a run ends for lack of a line
+module _ (memory : ℕ) (run : StoredProgram → List (List ℕ) → List ℕ × Ending) (p : StoredProgram)
+    (i j old new : Option (List ℕ)) where
+  lacks_line : (lines : List (List ℕ)) → ShowsRun (run p lines) old new endings.NoInput
+      → LacksInputLine (run_reply (run p lines)) old new
+  lacks_line lines h = record { bytes = h.bytes; status = sym (ap status h.ending) }
 
   pub unread_loaded : (known : Option (List ℕ)) → IfSome known (λ b. IsLoaded memory b p.lines) → p.memory ≡ memory
-      → (taken : List ℕ) × Consumes i j taken × ShowsUnread choose (run p (lines_come taken))
-      (given p (lines_come taken)) old new
+      → (taken : List ℕ) × Consumes i j taken × ShowsRun (run p (lines_come taken)) old new endings.NoInput
       → IfSome known (λ b. (taken : List ℕ) × Consumes i j taken
-      × EndsUnread choose (program_reply memory b (λ q. unread_run q (lines_come taken)))
-      (λ a. program_reply memory b (λ q. run_reply (run q (lines_come taken) a))) old new)
+      × LacksInputLine (program_reply memory b (λ q. run_reply (run q (lines_come taken)))) old new)
   unread_loaded None h e r = tt
   unread_loaded (Some b) h e r =
       let lines = lines_come r.0 in
@@ -413,8 +406,7 @@ module _ (memory : ℕ) (choose : Option ℤ) (run : StoredProgram → List (Lis
       rw (program_of_text-ok memory b p.lines h) (
         r.0,
         r.1,
-        subst (λ q. EndsUnread choose (unread_run q lines) (λ a. run_reply (run q lines a)) old new) (sym stored)
-            (ends_unread lines choose r.2),
+        subst (λ q. LacksInputLine (run_reply (run q lines)) old new) (sym stored) (lacks_line lines r.2),
       )
 
 -- ---- what is taken of the input

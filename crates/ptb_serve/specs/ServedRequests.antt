@@ -12,7 +12,8 @@
 --     WritesFewer report due old new    the reports of the first of these runs were written, and fewer than all
 --     StopsForMemory mode ..            what was written of a listing, of a sample, or of a run by a seed, where memory
 --                                       was refused
---     EndsUnread choose reply others old new    what was written of the reply to a run that couldn't read a line
+--     LacksInputLine reply old new      the reply to a run that ends for lack of a line was written
+--     RunUnread request known left b answers old new    what was written of a run that couldn't read a line
 --     ServesUnread mode ..              what was written where the input could not be read
 --     note_wanted_by choose all k note status    how many of all lines a run wanted that takes k
 --     ReadsForRun mode ..               what a run takes of its input
@@ -52,8 +53,8 @@ use Rattle.ptb_options.specs.declared.request.Mode.TheVariants as modes
 use Rattle.ptb_serve.specs.declared.service.Outcome.{Outcome}
 use Rattle.ptb_serve.specs.Statuses.{note_status}
 use Rattle.ptb_options.specs.declared.request.Request.{Request}
-use Rattle.ptb_machine.specs.PlainRuns.{ReadsFor, ShowsQuestion, lines_come, lines_taken}
-use Rattle.ptb_serve.specs.Replies.{Reply, lines_reply, seeded_lines_reply, program_of_text}
+use Rattle.ptb_machine.specs.PlainRuns.{ReadsFor, ShowsQuestion, lines_come, lines_taken, without_choose}
+use Rattle.ptb_serve.specs.Replies.{Reply, lines_reply, program_of_text}
 use Rattle.ptb_serve.specs.Replies.{program_reply, runs_drawn, runs_due}
 use Rattle.ptb_machine.specs.SeededRuns.{seeded_answers}
 
@@ -186,33 +187,22 @@ pub record LacksInputLine (reply : Reply) (old new : Option (List ℕ)) : Type 0
   pub bytes : Appends old new reply.bytes
   pub status : reply.status ≡ status endings.NoInput
 
--- a prefix of its bytes was written: all bytes of one of the other replies, of a run that ends for lack of an answer
-pub record AsksUnread (reply : Reply) (others : Answers → Reply) (old new : Option (List ℕ)) : Type 0 where
-  pub begins : TakesSome old new reply.bytes
-  pub asked : Answers
-  pub bytes : Appends old new (others asked).bytes
-  pub status : (others asked).status ≡ status endings.NoAnswer
-
--- without a line a run ends so, or asks for an answer; `others` are the replies to runs with other answers
-abbrev pub EndsUnread : Option ℤ → Reply → (Answers → Reply) → Option (List ℕ) → Option (List ℕ) → Type 0
-EndsUnread None reply others old new = LacksInputLine reply old new
-EndsUnread (Some n) reply others old new = AsksUnread reply others old new
-
--- the reply to a run of the text b, on the lines that came complete in the bytes that were taken of the input
-abbrev pub RunUnread : Request → Option (List ℕ) → Option (List ℕ) → List ℕ → (List (List ℕ) → StoredProgram → Reply)
-    → Option (List ℕ) → Option (List ℕ) → Type 0
-RunUnread request known left b run old new =
+-- the reply to a run of the text b with these answers, on the lines that came complete in the bytes that were taken of
+-- the input: no answer is asked for instead of a line that may come
+abbrev pub RunUnread : Request → Option (List ℕ) → Option (List ℕ) → List ℕ
+    → (StoredProgram → List (List ℕ) → Answers) → Option (List ℕ) → Option (List ℕ) → Type 0
+RunUnread request known left b answers old new =
     (taken : List ℕ) × Consumes known left taken
-    × EndsUnread request.rules.choose (program_reply request.memory b (run (lines_come taken)))
-    (λ a. program_reply request.memory b (lines_reply request.rules a (lines_come taken))) old new
+    × LacksInputLine (program_reply request.memory b (λ p. lines_reply (without_choose request.rules)
+    (answers p (lines_come taken)) (lines_come taken) p)) old new
 
 -- a listing, a sample or a table begins once the input was read
 abbrev pub ServesUnread : Mode → Request → Option (List ℕ) → Option (List ℕ) → List ℕ → Option (List ℕ)
     → Option (List ℕ) → Type 0
 ServesUnread (modes.Plain a) request known left b old new =
-    RunUnread request known left b (lines_reply request.rules a) old new
+    RunUnread request known left b (λ p lines. a) old new
 ServesUnread (modes.Seeded seed) request known left b old new =
-    RunUnread request known left b (seeded_lines_reply request.rules seed) old new
+    RunUnread request known left b (λ p lines. seeded_answers seed p lines request.rules) old new
 ServesUnread (modes.All under after first form) request known left b old new = Appends old new []
 ServesUnread (modes.Shares answers form) request known left b old new = Appends old new []
 ServesUnread (modes.Sample seed runs form) request known left b old new = Appends old new []

@@ -37,6 +37,18 @@ const UNREAD_INPUTS: &[(&[u8], &[u8], u8, &[u8])] = &[
     (b"10 INPUT A,B", b"5\n7", 66, b"A:5\nB:"),
     (b"10 INPUT A", b"", 66, b"A:"),
     (b"10 INPUT A", b"5", 66, b"A:"),
+    (
+        b"10 PRINT \"A\"; X=RND(9); PRINT \"B\"; INPUT Y",
+        b"",
+        66,
+        b"A\nB\nY:",
+    ),
+    (
+        b"10 INPUT A; PRINT \"A\"; X=RND(9); PRINT \"B\"; INPUT Y",
+        b"5\n7",
+        66,
+        b"A:5\nA\nB\nY:",
+    ),
 ];
 
 // How many bytes are read at most, and the bound for answers instead of lines.

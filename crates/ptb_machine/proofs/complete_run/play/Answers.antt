@@ -16,7 +16,7 @@ steps-init g c = (
   c.requires.unspent,
   underway_first g.C.Chooser g.S.Screen g.L.LineSource c.args.io.now.rules _ c.args.player.now c.args.machine.now
       (g.met.L.LineSource.gives_none c.args.io.now.source.now)
-      (λ input. c.requires.represents input c.args.io.now.rules.choose),
+      c.requires.represents,
   record { chooser = refl; screen = refl; source = refl; rules = refl },
 )
 

@@ -14,7 +14,7 @@ returns-in_err-player g c =
     (record {
       given = [];
       gives = g.met.L.LineSource.gives_none c.args.source.now;
-      runs = λ rest _. inl refl;
+      runs = λ choose range rest _. inl refl;
       missed = inl (not_missed _ _ _ _ (omega arith));
     })
 
