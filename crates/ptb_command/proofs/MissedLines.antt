@@ -1,7 +1,7 @@
 -- This file proves what is known of lines that were asked for without success.
 -- Main lemmas: `missed_out` and `fewer_missed`.
 use Rattle.std.proofs.Common.{◌≡◌, true, ◌≤◌, ◌+◌, length, inl, inr, ℕ, List, Option, Some, None, ℤ}
-use Rattle.std.proofs.Common.{Result, Ok, Err, IfOk, IfSome, IfNone, [], ◌∷◌, sym, ap, subst, ◌∙◌}
+use Rattle.std.proofs.Common.{Result, Ok, Err, IfOk, IfSome, IfNone, OnErr, [], ◌∷◌, sym, ap, subst, ◌∙◌}
 use Rattle.std.proofs.Common.{arith, Bor}
 use Rattle.std.proofs.Math.Nat.{le_refl}
 use Rattle.std.specs.Result.{IsErrAnd}
@@ -12,6 +12,19 @@ use Rattle.ptb_command.specs.declared.stop.CommandStop.{CommandStop}
 use Rattle.ptb_command.specs.declared.stop.CommandStop.TheVariants as stops
 use Rattle.ptb_command.specs.Stops.{still_shows, Miss, NoMiss, LineMiss, MemoryMiss, UnlessMissed}
 use Rattle.ptb_command.specs.Stops.{stop_miss, miss_of, NotMissed}
+
+-- ---- after a fault
+
+-- what holds of any result
+pub at_err : {X E : Type 0} (r : Result X E) (P : Type 0) → P → OnErr r P
+at_err (Ok x) P p = tt
+at_err (Err e) P p = p
+
+pub err_then : {X E : Type 0} (r : Result X E) (P Q : Type 0) → (P → Q) → OnErr r P → OnErr r Q
+err_then (Ok x) P Q f h = tt
+err_then (Err e) P Q f h = f h
+
+-- ---- a line that was asked for
 
 module _ (refused : DeviceFault → Type 0) (P : Type 0) where
   -- what holds in any case

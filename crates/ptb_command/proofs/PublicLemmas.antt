@@ -24,4 +24,4 @@ pub use Rattle.ptb_command.proofs.ShownPieces.{report_shown, shown_same, shown_t
 pub use Rattle.ptb_command.proofs.ShownPieces.{three_shown, unshown_first}
 pub use Rattle.ptb_command.proofs.Stops.{asks_before, wants_before}
 pub use Rattle.ptb_command.proofs.Calls.{called}
-pub use Rattle.ptb_command.proofs.MissedLines.{miss_unmissed, missed_from, not_missed, not_missed_then}
+pub use Rattle.ptb_command.proofs.MissedLines.{err_then, miss_unmissed, missed_from, not_missed, not_missed_then}
