@@ -48,7 +48,7 @@ impl<'p, 'l> Stage<'p, 'l> {
     {
         self.machine.restore(alloc, &place.machine)?;
         self.devices.screen = TextScreen::from_vec(Vec::from_slice(alloc, &place.shown)?);
-        self.devices.source.seek(place.taken);
+        self.devices.source.go(place.taken);
         play_plan(
             &self.player,
             self.rules,

@@ -157,7 +157,7 @@ impl<'a> Lines<'a> {
     }
 
     /// Goes to where `count` of the lines were taken.
-    pub fn seek(&mut self, count: usize)
+    pub fn go(&mut self, count: usize)
         requires { count ≤ length self.old.lines }
         ensures { self.new ≡ record self.old { taken = count } }
     {

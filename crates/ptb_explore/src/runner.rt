@@ -108,7 +108,7 @@ impl<'a> Runner<'a> {
             Some(copy) => {
                 self.chooser.assume_given(copy.taken);
                 screen.cut(copy.shown);
-                source.seek(copy.lines);
+                source.go(copy.lines);
                 match copy.machine {
                     Some(machine) => Ok(machine),
                     None => unreachable!(),

@@ -73,7 +73,7 @@ fn expect_next(
 fn expect_there(rt: &impl Abort, all: &[Line], (taken, want): (usize, Option<&[u8]>)) {
     assert!(rt; taken <= all.len());
     let mut lines = Lines::new(all);
-    lines.seek(taken);
+    lines.go(taken);
     let count = lines.taken();
     expect_eq(rt, "line there", (count, lines.next()), (taken, Ok(want)));
 }

@@ -7,11 +7,11 @@ use Rattle.ptb_chances.proofs.stage.Stage.start.Goals as goal
 pub returns-clause-plays : goal.returns-clause-plays
 returns-clause-plays c =
     let machine : c.args.place.now.machine ≡ c.restore.new.self = search rules in
-    let taken : c.seek.new.self.taken ≡ c.args.place.now.taken = search rules in
-    let lines : c.seek.new.self.lines ≡ c.args.self.now.devices.source.lines = search rules in
+    let taken : c.go.new.self.taken ≡ c.args.place.now.taken = search rules in
+    let lines : c.go.new.self.lines ≡ c.args.self.now.devices.source.lines = search rules in
     let shown : c.args.place.now.shown.items ≡ c.from_vec.result = search rules in
     let left : drop c.args.place.now.taken c.args.self.now.devices.source.lines
-    ≡ drop c.seek.new.self.taken c.seek.new.self.lines = rw (taken, lines) refl in
+    ≡ drop c.go.new.self.taken c.go.new.self.lines = rw (taken, lines) refl in
     IfOk-weaker c.play_plan.result _ _
     (λ played plays. (
       plays.0,
@@ -19,5 +19,5 @@ returns-clause-plays c =
     )) c.play_plan.ensures.plays
 
 pub returns-clause-within : goal.returns-clause-within
-returns-clause-within c = let lines : c.seek.new.self.lines ≡ c.args.self.now.devices.source.lines = search rules in
+returns-clause-within c = let lines : c.go.new.self.lines ≡ c.args.self.now.devices.source.lines = search rules in
     rw (← lines) c.play_plan.ensures.within

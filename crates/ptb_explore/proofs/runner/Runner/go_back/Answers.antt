@@ -64,15 +64,15 @@ cut-requires-in-Some c =
     let on = from_copy (goal.at.cut-requires-in-Some c).In-Some in
     on.shown
 
-pub seek-requires : goal.seek-requires
-seek-requires c =
-    let on = from_copy (goal.at.seek-requires c).In-Some in
+pub go-requires : goal.go-requires
+go-requires c =
+    let on = from_copy (goal.at.go-requires c).In-Some in
     on.stands.within
 
 pub returns-in-Some-machine-clause-within : goal.returns-in-Some-machine-clause-within
 returns-in-Some-machine-clause-within c =
     let on = from_copy (goal.at.returns-in-Some-machine-clause-within c).In-Some in
-    rw c.seek.ensures on.stands.within
+    rw c.go.ensures on.stands.within
 
 pub returns-in-Some-machine-clause-unspent : goal.returns-in-Some-machine-clause-unspent
 returns-in-Some-machine-clause-unspent c =
@@ -94,8 +94,8 @@ returns-in-Some-machine-clause-run_prefix c =
     c.args.common (recorded c.args.self.now.chooser) (answers_in c.args.self.now.report.asked.items)
     (bounds_in c.args.self.now.chooser.asked.items) c.args.screen.now c.go_back.new.self.kept.items
     c.in-Some.copy c.requires.agrees on (given_bounds c.assume_given.new.self) (recorded c.assume_given.new.self) given
-    (ap answers_in c.assume_given.ensures.asked) _ c.cut-in-Some.new.self c.seek.new.self
-    c.in-Some-machine.machine.value c.cut-in-Some.ensures c.seek.ensures machine_is)
+    (ap answers_in c.assume_given.ensures.asked) _ c.cut-in-Some.new.self c.go.new.self
+    c.in-Some-machine.machine.value c.cut-in-Some.ensures c.go.ensures machine_is)
 
 pub returns-in-Some-machine-clause-copies : goal.returns-in-Some-machine-clause-copies
 returns-in-Some-machine-clause-copies c =
@@ -139,7 +139,7 @@ returns-in-Some-machine-clause-plan c = same_plan c.args.self.now.chooser c.assu
     (ap answers_in c.assume_given.ensures.asked) c.assume_given.ensures.planned
 
 pub returns-in-Some-machine-clause-same_lines : goal.returns-in-Some-machine-clause-same_lines
-returns-in-Some-machine-clause-same_lines c = ap (λ (s : LineList). s.lines) c.seek.ensures
+returns-in-Some-machine-clause-same_lines c = ap (λ (s : LineList). s.lines) c.go.ensures
 
 pub returns-in-Some-machine-clause-back : goal.returns-in-Some-machine-clause-back
 returns-in-Some-machine-clause-back c = copy_left _ _ _ _ _ c.in-Some.is c.in_ok-go_back.ensures
