@@ -23,7 +23,7 @@ use Rattle.ptb_command.specs.Act.{command_action, StepResult, Next, Over}
 use Rattle.ptb_command.specs.Act.{step_result_of, ending_of, with_step, act}
 use Rattle.ptb_command.specs.Effects.{action_state}
 use Rattle.ptb_machine.specs.Laws.{EffectLaws}
-use Rattle.ptb_machine.specs.Play.{Last, act_unless, turn_by, turn, after_turn, turns_within}
+use Rattle.ptb_machine.specs.Play.{FinalState, act_unless, turn_by, turn, after_turn, turns_within}
 use Rattle.ptb_machine.specs.Play.{all_turns, last_state, Finish, finish_of, turns, play}
 use Rattle.ptb_check.specs.Laws.{end_state}
 
@@ -177,12 +177,12 @@ module _ (effects : EffectLaws) where
 
     -- ---- runs
 
-    abbrev NextAtLast : Outcome Last State → Type 0
+    abbrev NextAtLast : Outcome FinalState State → Type 0
     NextAtLast (Done last rest) = last.ending ≡ ending_of kind → StandsNext p.lines last.state
     NextAtLast (Asks n T) = Unit {0}
     NextAtLast (Out n T) = Unit {0}
 
-    after_next : (others : State → Answers → Outcome Last State) (o : Outcome StepResult State)
+    after_next : (others : State → Answers → Outcome FinalState State) (o : Outcome StepResult State)
         → ((T : State) (a : Answers) → NextAtLast (others T a)) → NextWhereOver o
         → NextAtLast (go_on o (after_turn others))
     after_next others (Done (Next T) rest) each h = each T rest
@@ -200,7 +200,7 @@ module _ (effects : EffectLaws) where
     all_next S a = within_next (suc (limit - S.steps)) S a
 
     -- as the result of play has the end of a run
-    told_next : (o : Outcome Last State) (f : Finish) (rest : Answers) → NextAtLast o
+    told_next : (o : Outcome FinalState State) (f : Finish) (rest : Answers) → NextAtLast o
         → map_outcome (λ g. g) (λ (S : State). S.shown) (map_outcome finish_of (λ (S : State). S) o) ≡ Done f rest
         → f.ending ≡ ending_of kind → StandsNext p.lines (last_state o)
     told_next (Done last r) f rest h e k = let same : finish_of last ≡ f = cc in

@@ -29,7 +29,7 @@ use Rattle.ptb_command.specs.Act.{finish, end_of, first_width, command_action}
 use Rattle.ptb_command.specs.Act.{StepResult, Next, Over, step_result_of, ending_of, with_step, act}
 use Rattle.ptb_command.specs.Act.{value_action, target_action, store, take_line, ask_for}
 use Rattle.ptb_command.specs.Act.{store_or_again, without_line, input_action, parts_action}
-use Rattle.ptb_machine.specs.Play.{act_unless, turn_by, turn, Last, after_turn, turns_within}
+use Rattle.ptb_machine.specs.Play.{act_unless, turn_by, turn, FinalState, after_turn, turns_within}
 use Rattle.ptb_machine.specs.Play.{all_turns, Finish, finish_of, turns, play}
 use Rattle.ptb_answers.specs.declared.rules.Rules.{Rules}
 use Rattle.ptb_machine.specs.EndingLaws.{IsRunEnding, EndingLaws}
@@ -276,12 +276,12 @@ module _ (choose : Option ℤ) where
   unfolding turn
   turn_ends p limit S a e = turn_by_ends p limit (next_command p.lines S.place) S a e
 
-  abbrev LastLikeRun : Outcome Last State → Type 0
+  abbrev LastLikeRun : Outcome FinalState State → Type 0
   LastLikeRun (Done l rest) = IsRunEnding choose l.ending
   LastLikeRun (Asks n S) = Unit {0}
   LastLikeRun (Out n S) = Unit {0}
 
-  after_ends : (others : State → Answers → Outcome Last State)
+  after_ends : (others : State → Answers → Outcome FinalState State)
       → ((S : State) (a : Answers) → S.choose ≡ choose → LastLikeRun (others S a))
       → (o : Outcome StepResult State) → TurnsLikeRun choose o → LastLikeRun (go_on o (after_turn others))
   after_ends others each (Done (Next S) rest) c = each S rest c
@@ -296,7 +296,7 @@ module _ (choose : Option ℤ) where
   within_ends (suc n) p limit S a e = after_ends (turns_within n p limit) (within_ends n p limit) (turn p limit S a)
       (turn_ends p limit S a e)
 
-  told_ends : (o : Outcome Last State) → LastLikeRun o
+  told_ends : (o : Outcome FinalState State) → LastLikeRun o
       → HasRunEnding choose (map_outcome (λ f. f) (λ (S : State). S.shown) (map_outcome finish_of (λ (S : State). S) o))
   told_ends (Done l rest) c = c
   told_ends (Asks n S) c = tt

@@ -17,7 +17,7 @@ use Rattle.ptb_command.specs.Act.{finish, end_of, first_width, command_action, a
 use Rattle.ptb_command.specs.Act.{StepResult, Next, Over, step_result_of, with_step, act}
 use Rattle.ptb_answers.specs.declared.rules.Rules.{Rules}
 use Rattle.ptb_machine.specs.Questions.{command_questions, line_questions, most_answers, answers_left}
-use Rattle.ptb_machine.specs.Play.{Last, act_unless, turn_by, turn, after_turn, turns_within}
+use Rattle.ptb_machine.specs.Play.{FinalState, act_unless, turn_by, turn, after_turn, turns_within}
 use Rattle.ptb_machine.specs.Play.{all_turns, finish_of, turns, play}
 use Rattle.ptb_command.specs.Effects.{act_state, CommandChange}
 use Rattle.ptb_command.proofs.PublicLemmas.{act_keeps}
@@ -126,7 +126,7 @@ module _ (values : ValueLaws) where
 
     -- ---- runs
 
-    step_result_reader : (others : State → Answers → Outcome Last State)
+    step_result_reader : (others : State → Answers → Outcome FinalState State)
         → ((T : State) → IsReader (others T) (cost_of T)) → (d : StepResult)
         → IsReader (after_turn others d) (left_after cost_of d)
     unfolding left_after

@@ -18,7 +18,7 @@ use Rattle.ptb_command.specs.Breakage.{Breakage}
 use Rattle.ptb_command.specs.Breakage as errors
 use Rattle.ptb_command.specs.State.{Place, State, first_state}
 use Rattle.ptb_command.specs.Act.{StepResult, Next, Over}
-use Rattle.ptb_machine.specs.Play.{Last, last_in, after_turn, turn, all_turns, last_state}
+use Rattle.ptb_machine.specs.Play.{FinalState, last_in, after_turn, turn, all_turns, last_state}
 use Rattle.ptb_machine.specs.Play.{unasked_lines, next_number, Finish, finish_of, turns, play}
 use Rattle.ptb_command.specs.Effects.{act_state, Begins, TakesLines}
 use Rattle.ptb_command.specs.Devices.{ScreenState, Devices, with_screen, Shows, Exchange}
@@ -43,7 +43,7 @@ use Rattle.ptb_machine.proofs.Turns.{all_by_turn, turn_goes, all_change}
 
 -- what is left of a turn, and then of the run
 abbrev pub then_turns : StoredProgram → ℕ → (State → Answers → Outcome StepResult State) → State → Answers
-    → Outcome Last State
+    → Outcome FinalState State
 then_turns p limit g S a = go_on (g S a) (after_turn (all_turns p limit))
 
 turns_leave : (p : StoredProgram) (limit : ℕ) (S T : State) (g : State → Answers → Outcome StepResult State)
@@ -69,7 +69,7 @@ exchanges_onto d e x h = record {
 
 -- the run of p with this input has come to g
 abbrev pub RunsTo : StoredProgram → Rules → Configuration → Devices → List (List ℕ) → List (List ℕ) → Devices
-    → (State → Answers → Outcome Last State) → Type 0
+    → (State → Answers → Outcome FinalState State) → Type 0
 RunsTo p rules m o input rest d g =
     StepsTo p.lines m o (first_state p input rules.choose) rest
     (all_turns p rules.limit (first_state p input rules.choose)) d g
@@ -115,14 +115,14 @@ run_then p rules m n o d e input left rest g h s = record {
 -- ---- plays
 
 -- as it is reported
-abbrev pub as_played : Outcome Last State → Outcome Finish (List ℕ)
+abbrev pub as_played : Outcome FinalState State → Outcome Finish (List ℕ)
 as_played u = map_outcome (λ f. f) (λ (T : State). T.shown) (map_outcome finish_of (λ (T : State). T) u)
 
-abbrev pub playing : (State → Answers → Outcome Last State) → State → Answers → Outcome Finish (List ℕ)
+abbrev pub playing : (State → Answers → Outcome FinalState State) → State → Answers → Outcome Finish (List ℕ)
 playing g S a = as_played (g S a)
 
 plays_to : (p : StoredProgram) (rules : Rules) (m : Configuration) (o d : Devices) (input rest : List (List ℕ))
-    (g : State → Answers → Outcome Last State) (h : RunsTo p rules m o input rest d g)
+    (g : State → Answers → Outcome FinalState State) (h : RunsTo p rules m o input rest d g)
     → Plays p rules input o d h.exchange (playing g h.leads.state)
 unfolding play turns
 plays_to p rules m o d input rest g h = record {
@@ -137,7 +137,7 @@ plays_as p rules input o d x f g e h = record { exchanges = h.exchanges; leaves 
 
 -- the lines that are left after those that were given are those of the last state
 lines_are : (p : StoredProgram) (rules : Rules) (m : Configuration) (o d : Devices) (input rest : List (List ℕ))
-    (g : State → Answers → Outcome Last State) (h : RunsTo p rules m o input rest d g)
+    (g : State → Answers → Outcome FinalState State) (h : RunsTo p rules m o input rest d g)
     → input ≡ d.given ++ rest → (later : Answers) → (last_state (g h.leads.state later)).lines ≡ h.leads.state.lines
     → input ≡ d.given ++ unasked_lines p input rules (h.exchange.answers ++ later)
 lines_are p rules m o d input rest g h k later same =
@@ -146,7 +146,7 @@ lines_are p rules m o d input rest g h k later same =
 
 -- it is over
 run_ends : (refused : Refusal → Type 0) (p : StoredProgram) (rules : Rules) (m : Configuration) (o d : Devices)
-    (input rest : List (List ℕ)) (ending : Ending) (g : State → Answers → Outcome Last State)
+    (input rest : List (List ℕ)) (ending : Ending) (g : State → Answers → Outcome FinalState State)
     (h : RunsTo p rules m o input rest d g)
     → input ≡ d.given ++ rest → ((a : Answers) → g h.leads.state a ≡ Done (last_in ending h.leads.state) a)
     → IsFinished refused p rules input o d ending
@@ -162,12 +162,12 @@ run_ends refused p rules m o d input rest ending g h k e = record {
 }
 
 -- with a refused answer it asks, or is out
-abbrev refusal_of : ℤ → State → Pause → Outcome Last State
+abbrev refusal_of : ℤ → State → Pause → Outcome FinalState State
 refusal_of bound T pauses.Ended = Asks bound T
 refusal_of bound T (pauses.OutOfRange k) = Out bound T
 refusal_of bound T pauses.Memory = Asks bound T
 
-refused_at : (g : Answers → Outcome Last State) (bound : ℤ) (T : State) (z : Pause) (later : Answers)
+refused_at : (g : Answers → Outcome FinalState State) (bound : ℤ) (T : State) (z : Pause) (later : Answers)
     → AsksNext g bound T z → g (refused_by_pause z later) ≡ refusal_of bound T z
 refused_at g bound T pauses.Ended later h = h.asks
 refused_at g bound T (pauses.OutOfRange k) later h = h.outside later
@@ -178,7 +178,7 @@ refused_state bound T pauses.Ended = refl
 refused_state bound T (pauses.OutOfRange k) = refl
 refused_state bound T pauses.Memory = refl
 
-played_shown : (u : Outcome Last State) → played_bytes (as_played u) ≡ (last_state u).shown
+played_shown : (u : Outcome FinalState State) → played_bytes (as_played u) ≡ (last_state u).shown
 played_shown (Done l rest) = refl
 played_shown (Asks k S) = refl
 played_shown (Out k S) = refl
@@ -186,7 +186,8 @@ played_shown (Out k S) = refl
 -- a question is refused
 run_waits : (refused : Refusal → Type 0) (p : StoredProgram) (rules : Rules) (m : Configuration) (o d : Devices)
     (input rest : List (List ℕ)) (z : Pause)
-    → input ≡ d.given ++ rest → (w : AsksUnanswered {A = Last} refused (RunsTo p rules m o input rest) d last_state z)
+    → input ≡ d.given ++ rest → (w : AsksUnanswered {A = FinalState} refused
+    (RunsTo p rules m o input rest) d last_state z)
     → IsUnanswered refused p rules input o d z
 run_waits refused p rules m o d input rest z k w =
     let T = w.comes.leads.state in

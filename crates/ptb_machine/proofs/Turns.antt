@@ -8,7 +8,7 @@ use Rattle.ptb_answers.specs.Outcome.{Answers, Outcome, Done, Asks, Out, go_on, 
 use Rattle.ptb_command.specs.Commands.{Command}
 use Rattle.ptb_command.specs.State.{Place, State, next_command}
 use Rattle.ptb_command.specs.Act.{StepResult, Next, Over, with_step}
-use Rattle.ptb_machine.specs.Play.{Last, act_unless, turn_by, turn, after_turn, turns_within}
+use Rattle.ptb_machine.specs.Play.{FinalState, act_unless, turn_by, turn, after_turn, turns_within}
 use Rattle.ptb_machine.specs.Play.{all_turns, last_state, finish_of, after_step_result, turns}
 use Rattle.ptb_command.specs.Effects.{act_state, Begins, CommandChange}
 use Rattle.ptb_machine.specs.RunEffects.{run_shown, run_steps, TurnChange}
@@ -70,7 +70,7 @@ turn_goes p limit S T a rest e = by_goes p limit (next_command p.lines S.place) 
 -- ---- runs
 
 -- two ways to continue agree after a turn if they agree where it continues
-go_on_same : (f g : State → Answers → Outcome Last State) (o : Outcome StepResult State)
+go_on_same : (f g : State → Answers → Outcome FinalState State) (o : Outcome StepResult State)
     → ((T : State) (rest : Answers) → o ≡ Done (Next T) rest → f T rest ≡ g T rest)
     → go_on o (after_turn f) ≡ go_on o (after_turn g)
 go_on_same f g (Done (Next T) rest) same = same T rest refl
@@ -128,7 +128,8 @@ change_joined limit S T U c d = record {
   steps = λ h. d.steps (c.steps h);
 }
 
-pub after_change : (f : State → Answers → Outcome Last State) (limit : ℕ) (S : State) (o : Outcome StepResult State)
+pub after_change : (f : State → Answers → Outcome FinalState State) (limit : ℕ) (S : State)
+    (o : Outcome StepResult State)
     → TurnChange limit S (act_state o) → ((T : State) (rest : Answers) → TurnChange limit T (last_state (f T rest)))
     → TurnChange limit S (last_state (go_on o (after_turn f)))
 after_change f limit S (Done (Next T) rest) c others = change_joined limit S T _ c (others T rest)
@@ -148,12 +149,14 @@ pub all_change : (p : StoredProgram) (limit : ℕ) (S : State) (a : Answers)
 unfolding all_turns
 all_change p limit S a = within_change (suc (limit - S.steps)) p limit S a
 
-told_shown : (u : Outcome Last State) → run_shown (map_outcome finish_of (λ (T : State). T) u) ≡ (last_state u).shown
+told_shown : (u : Outcome FinalState State) → run_shown (map_outcome finish_of (λ (T : State). T) u) ≡
+    (last_state u).shown
 told_shown (Done l rest) = refl
 told_shown (Asks n T) = refl
 told_shown (Out n T) = refl
 
-told_steps : (u : Outcome Last State) → run_steps (map_outcome finish_of (λ (T : State). T) u) ≡ (last_state u).steps
+told_steps : (u : Outcome FinalState State) → run_steps (map_outcome finish_of (λ (T : State). T) u) ≡
+    (last_state u).steps
 told_steps (Done l rest) = refl
 told_steps (Asks n T) = refl
 told_steps (Out n T) = refl

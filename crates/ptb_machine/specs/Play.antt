@@ -35,25 +35,25 @@ turn p limit S a = turn_by p limit (next_command p.lines S.place) S a
 -- ---- runs
 
 -- the state in which a run is over
-pub record Last : Type 0 where
+pub record FinalState : Type 0 where
   pub ending : Ending
   pub state : State
 
-abbrev pub last_in : Ending → State → Last
+abbrev pub last_in : Ending → State → FinalState
 last_in ending S = record { ending = ending; state = S }
 
 -- the run continues, or is over
-abbrev pub after_turn : (State → Answers → Outcome Last State) → StepResult → Answers → Outcome Last State
+abbrev pub after_turn : (State → Answers → Outcome FinalState State) → StepResult → Answers → Outcome FinalState State
 after_turn others (Next S) rest = others S rest
 after_turn others (Over ending S) rest = Done (last_in ending S) rest
 
 -- at most n turns
-unfoldable pub turns_within : ℕ → StoredProgram → ℕ → State → Answers → Outcome Last State
+unfoldable pub turns_within : ℕ → StoredProgram → ℕ → State → Answers → Outcome FinalState State
 turns_within zero p limit S a = Done (last_in endings.Limit S) a
 turns_within (suc n) p limit S a = go_on (turn p limit S a) (after_turn (turns_within n p limit))
 
 -- each turn after which a run continues is a step below the limit, so there are no more turns than these
-unfoldable pub all_turns : StoredProgram → ℕ → State → Answers → Outcome Last State
+unfoldable pub all_turns : StoredProgram → ℕ → State → Answers → Outcome FinalState State
 all_turns p limit S a = turns_within (suc (limit - S.steps)) p limit S a
 
 -- how a run ends: the commands begun, and all that was shown
@@ -65,7 +65,7 @@ pub record Finish : Type 0 where
 abbrev pub finish_in : Ending → State → Finish
 finish_in ending S = record { ending = ending; steps = S.steps; shown = S.shown }
 
-abbrev pub finish_of : Last → Finish
+abbrev pub finish_of : FinalState → Finish
 finish_of l = finish_in l.ending l.state
 
 -- the result of all turns, as the end of a run is reported
@@ -85,7 +85,7 @@ unfoldable pub play : StoredProgram → List (List ℕ) → Rules → Answers �
 play p input rules a = map_outcome (λ f. f) (λ S. S.shown) (turns p rules.limit (first_state p input rules.choose) a)
 
 -- the state in which a run is over, or asks
-abbrev pub last_state : Outcome Last State → State
+abbrev pub last_state : Outcome FinalState State → State
 last_state (Done l rest) = l.state
 last_state (Asks n S) = S
 last_state (Out n S) = S
