@@ -9,7 +9,7 @@ use Rattle.std.proofs.Common.{refl, ◌∙◌, ap, arith}
 use Rattle.ptb_options.specs.declared.request.Mode.{Mode}
 use Rattle.ptb_options.specs.declared.request.Mode.TheVariants as modes
 use Rattle.ptb_options.specs.declared.request.Request.{Request}
-use Rattle.ptb_options.specs.Options.{Options, Asks, AsksMode, RunsIt, clash}
+use Rattle.ptb_options.specs.Options.{Options, Requests, RequestsMode, RunsIt, clash}
 use Rattle.ptb.specs.declared.terminal.Terminals.{Terminals}
 use Rattle.ptb.specs.Exits.{AsksAt, by_seed, draws_seed, wants_seed, with_seed}
 
@@ -45,7 +45,7 @@ of_other i o n l k x a s p = grind arith
 -- ---- of the mode that the options ask for
 
 module _ (t : Terminals) (o : Options) where
-  draws-wants : (mode : Mode) → AsksMode o mode → draws_seed t o mode ≡ wants_seed t o
+  draws-wants : (mode : Mode) → RequestsMode o mode → draws_seed t o mode ≡ wants_seed t o
   draws-wants (modes.Plain a) h =
       of_answers t.input t.output (is_some o.answers) o.list o.check o.chances o.all
       (is_some o.seed) h.0.unlisted h.0.unchecked h.0.no_chances h.1 (ap is_some h.2)
@@ -88,11 +88,11 @@ unsampled o runs every seed h =
     let chances = runs.no_chances in
     grind arith
 
-asks_undrawn : (t : Terminals) (o : Options) (r : Request) → Asks o r → false ≡ draws_seed t o r.mode
+asks_undrawn : (t : Terminals) (o : Options) (r : Request) → Requests o r → false ≡ draws_seed t o r.mode
     → AsksAt t o None r
 asks_undrawn t o r asks draws = record { asks = asks; draws = draws ∙ draws-wants t o r.mode asks.mode; small = tt }
 
-asks_drawn : (t : Terminals) (o : Options) (r : Request) (seed : ℕ) → Asks o r → true ≡ draws_seed t o r.mode
+asks_drawn : (t : Terminals) (o : Options) (r : Request) (seed : ℕ) → Requests o r → true ≡ draws_seed t o r.mode
     → seed ≤ 999999
     → AsksAt t o (Some seed) (record r { mode = modes.Seeded seed })
 asks_drawn t o r seed asks draws small =
@@ -120,7 +120,7 @@ asks_drawn t o r seed asks draws small =
       small = small;
     }
 
-pub asks_at : (t : Terminals) (o : Options) (r : Request) (drawn : Option ℕ) → Asks o r
+pub asks_at : (t : Terminals) (o : Options) (r : Request) (drawn : Option ℕ) → Requests o r
     → is_some drawn ≡ draws_seed t o r.mode → IfSome drawn (λ seed. seed ≤ 999999)
     → AsksAt t o drawn (by_seed r drawn)
 asks_at t o r None asks draws small = asks_undrawn t o r asks draws

@@ -22,7 +22,7 @@ use Rattle.ptb_options.specs.declared.request.Mode.{Mode}
 use Rattle.ptb_options.specs.declared.request.Mode.TheVariants as modes
 use Rattle.ptb_options.specs.declared.request.Request.{Request}
 use Rattle.ptb_options.specs.declared.usage.UsageFault.{UsageFault}
-use Rattle.ptb_options.specs.Options.{Options, Asks, RefusesOptions, options_of}
+use Rattle.ptb_options.specs.Options.{Options, Requests, RefusesOptions, options_of}
 use Rattle.ptb_options.specs.Statuses.{refusal_status, usage_status}
 use Rattle.ptb_machine.specs.Streams.{Reads, Writes}
 use Rattle.ptb_serve.specs.declared.note.Note.{Note}
@@ -61,7 +61,7 @@ by_seed r None = r
 by_seed r (Some seed) = record r { mode = modes.Seeded seed }
 
 pub record AsksAt (terminals : Terminals) (o : Options) (drawn : Option ℕ) (r : Request) : Type 0 where
-  pub asks : Asks (with_seed o drawn) r
+  pub asks : Requests (with_seed o drawn) r
   pub draws : is_some drawn ≡ wants_seed terminals o
   pub small : IfSome drawn (λ seed. seed ≤ 999999)
 

@@ -17,7 +17,7 @@ use Rattle.ptb_options.specs.declared.request.Mode.{Mode}
 use Rattle.ptb_options.specs.declared.request.Request.{Request}
 use Rattle.ptb_options.specs.declared.usage.UsageFault.{UsageFault}
 use Rattle.ptb_options.specs.declared.usage.UsageFault.TheVariants.{BadList, Memory}
-use Rattle.ptb_options.specs.Options.{Asks, AsksMode, HasBound, HasMemorySize, IsFirstMisspelled}
+use Rattle.ptb_options.specs.Options.{Requests, RequestsMode, HasBound, HasMemorySize, IsFirstMisspelled}
 use Rattle.ptb_options.specs.Options.{Options, RefusesOptions, LacksMemory, clash, clashes, first_fault}
 use Rattle.ptb_options.specs.Options.{IsRulesOf, default_memory, default_steps}
 use Rattle.ptb_options.proofs.KeptLists.{first_misspelled}
@@ -70,7 +70,7 @@ rules_of o positive = record {
 module _ (o l : Options) (same : l ≡ o) where
   -- what is known of the request, or of why there is none
   pub record IsDecided (result : Result Request UsageFault) : Type 0 where
-    pub ok : IfOk result (Asks o)
+    pub ok : IfOk result (Requests o)
     pub fault : IfErr result (RefusesOptions o)
 
   refused : (fault : UsageFault) → RefusesOptions l fault → IsDecided (Err fault)
@@ -110,10 +110,11 @@ module _ (o l : Options) (same : l ≡ o) where
 
     -- nothing is
     pub asked : (kept : Option ℕ) (rules : Rules) (memory : ℕ) (mode : Mode) (size : IsMemorySize memory)
-        → kept ≡ l.memory → IsRulesOf l rules → memory ≡ unwrap_or kept 4096 → AsksMode l mode
-        → Asks o (record { rules = rules; memory = memory; mode = mode; in_range = size })
+        → kept ≡ l.memory → IsRulesOf l rules → memory ≡ unwrap_or kept 4096 → RequestsMode l mode
+        → Requests o (record { rules = rules; memory = memory; mode = mode; in_range = size })
     asked kept rules memory mode size given ruled held by_mode =
-        subst (λ (x : Options). Asks x (record { rules = rules; memory = memory; mode = mode; in_range = size })) same
+        subst (λ (x : Options). Requests x (record { rules = rules; memory = memory; mode = mode; in_range = size }))
+            same
         (record {
           clash = unclashed;
           rules = ruled;

@@ -9,7 +9,7 @@
 --     clashes o                  which options don't go together, and the fault of each
 --     clash o                    the fault of the first of them
 --     default_steps, default_memory     the numbers of a request that gives none
---     Asks o r                   the options ask for the request r
+--     Requests o r               the options ask for the request r
 --     list_text o x                the list of an option, as text
 --     IsSpelled o x              it is a list, or is left out
 --     IsMisspelledIn o x         it is no list
@@ -202,18 +202,19 @@ pub record RunsIt (o : Options) : Type 0 where
   pub no_chances : o.chances ≡ false
 
 -- without --all there are runs by a seed, if it is given, and otherwise one run by a list of answers
-abbrev pub AsksMode : Options → Mode → Type 0
-AsksMode o modes.List = o.list ≡ true
-AsksMode o modes.Check = (o.list ≡ false) × (o.check ≡ true)
-AsksMode o modes.Chances = (o.list ≡ false) × (o.check ≡ false) × (o.chances ≡ true)
-AsksMode o (modes.All under after first form) =
+abbrev pub RequestsMode : Options → Mode → Type 0
+RequestsMode o modes.List = o.list ≡ true
+RequestsMode o modes.Check = (o.list ≡ false) × (o.check ≡ true)
+RequestsMode o modes.Chances = (o.list ≡ false) × (o.check ≡ false) × (o.chances ≡ true)
+RequestsMode o (modes.All under after first form) =
     RunsIt o × (o.all ≡ true) × (o.shares ≡ None) × SpellsIfGiven o.under under × SpellsIfGiven o.after after
     × (first ≡ o.first) × (form ≡ form_of o.form)
-AsksMode o (modes.Shares answers form) = RunsIt o × (o.all ≡ true) × (o.shares ≡ Some answers) × (form ≡ form_of o.form)
-AsksMode o (modes.Plain a) =
+RequestsMode o (modes.Shares answers form) = RunsIt o × (o.all ≡ true) × (o.shares ≡ Some answers)
+    × (form ≡ form_of o.form)
+RequestsMode o (modes.Plain a) =
     RunsIt o × (o.all ≡ false) × (o.seed ≡ None) × SpellsAnswers (unwrap_or o.answers (codes "none")) a
-AsksMode o (modes.Seeded seed) = RunsIt o × (o.all ≡ false) × (o.seed ≡ Some seed) × (o.sample ≡ None)
-AsksMode o (modes.Sample seed runs form) =
+RequestsMode o (modes.Seeded seed) = RunsIt o × (o.all ≡ false) × (o.seed ≡ Some seed) × (o.sample ≡ None)
+RequestsMode o (modes.Sample seed runs form) =
     RunsIt o × (o.all ≡ false) × (o.seed ≡ Some seed) × (o.sample ≡ Some runs) × (form ≡ form_of o.form)
 
 -- without --steps a run begins at most so many commands
@@ -229,11 +230,11 @@ pub record IsRulesOf (o : Options) (rules : Rules) : Type 0 where
   pub limit : rules.limit ≡ unwrap_or o.steps default_steps
   pub choose : rules.choose ≡ option_map pos o.choose
 
-pub record Asks (o : Options) (r : Request) : Type 0 where
+pub record Requests (o : Options) (r : Request) : Type 0 where
   pub clash : clash o ≡ None
   pub rules : IsRulesOf o r.rules
   pub memory : r.memory ≡ unwrap_or o.memory default_memory
-  pub mode : AsksMode o r.mode
+  pub mode : RequestsMode o r.mode
 
 -- ---- why they are a usage error
 
@@ -289,10 +290,10 @@ HasItems modes.Check = ⊥
 HasItems modes.Chances = ⊥
 
 abbrev pub LacksMemory : Options → UsageFault → Type 0
-LacksMemory o fault = (fault ≡ Memory) × ((mode : Mode) × AsksMode o mode × HasItems mode)
+LacksMemory o fault = (fault ≡ Memory) × ((mode : Mode) × RequestsMode o mode × HasItems mode)
 
 -- lists are looked at where nothing else is wrong, and kept where all are spelled
 abbrev pub RefusesOptions : Options → UsageFault → Type 0
 RefusesOptions o BadList = (clash o ≡ None) × ((x : ListOption) × IsMisspelledIn o x)
-RefusesOptions o Memory = (r : Request) × Asks o r × HasItems r.mode
+RefusesOptions o Memory = (r : Request) × Requests o r × HasItems r.mode
 RefusesOptions o fault = clash o ≡ Some fault

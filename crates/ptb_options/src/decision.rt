@@ -1,10 +1,9 @@
 // This file decides what the arguments of the command line ask for, by `decide`.
 
-ghost use Rattle.std.specs.Prelude.{◌≡◌, None, IfErr, IfOk, IfSome, unwrap_or, codes};
-ghost use Rattle.std.specs.Option.{option_copied};
-ghost use Rattle.ptb_options.specs.Prelude.{SpellsAnswers, Asks, AsksMode, HasBound, HasMemorySize, IsFirstMisspelled};
-ghost use Rattle.ptb_options.specs.Prelude.{IsSpelled, RefusesOptions, RefusesAnswers, RefusesIfGiven, SpellsIfGiven};
-ghost use Rattle.ptb_options.specs.Prelude.{LacksMemory, clash, entries_of, options_of, ListOption};
+ghost use Rattle.std.specs.Prelude.{◌≡◌, None, IfErr, IfOk, IfSome, unwrap_or, codes, option_copied};
+ghost use Rattle.ptb_options.specs.Prelude.{IsFirstMisspelled, RefusesOptions, RefusesAnswers, RefusesIfGiven, clash};
+ghost use Rattle.ptb_options.specs.Prelude.{SpellsAnswers, RequestsMode, HasMemorySize, SpellsIfGiven, LacksMemory};
+ghost use Rattle.ptb_options.specs.Prelude.{Requests, HasBound, IsSpelled, entries_of, options_of, ListOption};
 
 use crate::answers::{MarkedAnswers, PlainAnswers, parse_answers, parse_list};
 use crate::given_options::GivenOptions;
@@ -30,7 +29,7 @@ use std::alloc::Global;
 pub fn decide(alloc: Global, matches: &ArgMatches<'_>) -> Result<Request, UsageFault>
     requires memory { HasMemorySize (options_of (entries_of matches.now)) }
     requires bound { HasBound (options_of (entries_of matches.now)) }
-    ensures ok { IfOk result (Asks (options_of (entries_of matches.now))) }
+    ensures ok { IfOk result (Requests (options_of (entries_of matches.now))) }
     ensures fault { IfErr result (RefusesOptions (options_of (entries_of matches.now))) }
 {
     let line = GivenOptions::of(matches);
@@ -63,7 +62,7 @@ impl<'a> GivenOptions<'a> {
     fn mode(&self, alloc: Global) -> Result<Mode, UsageFault>
         requires clash { clash self.now ≡ None }
         requires spelled { (x : ListOption) → IsSpelled self.now x }
-        ensures ok { IfOk result (AsksMode self.now) }
+        ensures ok { IfOk result (RequestsMode self.now) }
         ensures fault { IfErr result (LacksMemory self.now) }
     {
         if self.list {
