@@ -12,7 +12,7 @@ use Rattle.ptb_command.specs.Commands.{command_of, parts_of}
 use Rattle.ptb_command.specs.State.{Place}
 use Rattle.ptb_command.specs.Actions.{Action}
 use Rattle.ptb_command.specs.Act.{command_action}
-use Rattle.ptb_command.specs.Places.{At}
+use Rattle.ptb_command.specs.Places.{IsSamePlace}
 use Rattle.ptb_command.specs.Reads.{IsFirstWord}
 use Rattle.ptb_command.specs.Devices.{ScreenState, Devices, devices, Refusal, Unanswered, Unread}
 use Rattle.ptb_command.specs.Devices.{NoLine, refused_answers, refused_by}
@@ -73,7 +73,7 @@ begun_next p o here t word i n f = record {
   statement = n.is.statement;
   text = n.text;
   begin = here.at;
-  at = subst (λ (x : List ℕ). At x n.place.index here.at) n.text n.is.at;
+  at = subst (λ (x : List ℕ). IsSamePlace x n.place.index here.at) n.text n.is.at;
   more = n.more;
   command = f.command;
   from = f.from;

@@ -8,7 +8,7 @@ use Rattle.ptb_command.specs.declared.location.Location.{Location}
 use Rattle.ptb_command.specs.Commands.{commands}
 use Rattle.ptb_command.specs.State.{Place, place_after, text_of, command_there, placed_at}
 use Rattle.ptb_command.specs.State.{first_command, command_or_next, next_command}
-use Rattle.ptb_command.specs.Places.{At}
+use Rattle.ptb_command.specs.Places.{IsSamePlace}
 use Rattle.ptb_command.specs.CommandLaws.{CommandLaws}
 use Rattle.ptb_command.specs.Locations.{PlaceIs, IsLineAt, PlacesAre, NextIs}
 use Rattle.ptb_command.proofs.MachinePlaces.{is_placed}
@@ -40,7 +40,7 @@ module _ (laws : CommandLaws) (p : Statements) (q : Place) (s : Location) (a : P
     place = q;
     next = next_by p q ∙ ap (command_or_next p q)
         (ap (λ (x : List ℕ). slice_get (commands x) q.index) (sym tn)
-        ∙ laws.at_there t q.index s.at (subst (λ (x : List ℕ). At x q.index s.at) (sym tn) a.at) e);
+        ∙ laws.at_there t q.index s.at (subst (λ (x : List ℕ). IsSamePlace x q.index s.at) (sym tn) a.at) e);
     is = a;
     text = sym tn;
     more = e;
@@ -50,7 +50,7 @@ module _ (laws : CommandLaws) (p : Statements) (q : Place) (s : Location) (a : P
   following : is_over t s.at ≡ true → next_command p (Some q) ≡ first_command p (place_after p q.number)
   following e = next_by p q ∙ ap (command_or_next p q)
       (ap (λ (x : List ℕ). slice_get (commands x) q.index) (sym tn)
-      ∙ laws.at_none t q.index s.at (subst (λ (x : List ℕ). At x q.index s.at) (sym tn) a.at) e)
+      ∙ laws.at_none t q.index s.at (subst (λ (x : List ℕ). IsSamePlace x q.index s.at) (sym tn) a.at) e)
 
   pub next_last : is_over t s.at ≡ true → place_after p q.number ≡ None → next_command p (Some q) ≡ None
   next_last e k = following e ∙ ap (first_command p) k
@@ -64,7 +64,7 @@ module _ (laws : CommandLaws) (p : Statements) (q : Place) (s : Location) (a : P
       let text = text_there p r.place b z u r.is x in
       following e ∙ ap (first_command p) r.there ∙ ap (placed_at r.place)
       (ap (λ (y : List ℕ). slice_get (commands y) r.place.index) (sym text) ∙ laws.at_none u r.place.index b.at
-      (subst (λ (y : List ℕ). At y r.place.index b.at) (sym text) r.is.at) o)
+      (subst (λ (y : List ℕ). IsSamePlace y r.place.index b.at) (sym text) r.is.at) o)
 
   -- its first command is next
   pub next_later : (b : Location) (z : ℤ) (u : List ℕ) → is_over t s.at ≡ true
@@ -77,7 +77,7 @@ module _ (laws : CommandLaws) (p : Statements) (q : Place) (s : Location) (a : P
         place = r.place;
         next = following e ∙ ap (first_command p) r.there ∙ ap (placed_at r.place)
             (ap (λ (y : List ℕ). slice_get (commands y) r.place.index) (sym text) ∙ laws.at_there u r.place.index b.at
-            (subst (λ (y : List ℕ). At y r.place.index b.at) (sym text) r.is.at) o);
+            (subst (λ (y : List ℕ). IsSamePlace y r.place.index b.at) (sym text) r.is.at) o);
         is = r.is;
         text = sym text;
         more = o;

@@ -10,7 +10,7 @@ use Rattle.ptb_expr.specs.Evaluation.{IsWhole}
 use Rattle.ptb_command.specs.Commands.{Command, command_of, parts_of, next_begin, command_and}
 use Rattle.ptb_command.specs.Commands.{after_command, command_unless, command_round}
 use Rattle.ptb_command.specs.State.{Place, next_index}
-use Rattle.ptb_command.specs.Places.{At}
+use Rattle.ptb_command.specs.Places.{IsSamePlace}
 use Rattle.ptb_command.specs.CommandLaws.{CommandLaws}
 use Rattle.ptb_command.specs.Reads.{IsClosed, NextBegins}
 use Rattle.ptb_command.specs.Locations.{PlaceIs}
@@ -38,7 +38,7 @@ module _ (laws : CommandLaws) (p : Statements) (q : Place) (k : ℕ) (t : List �
       → PlaceIs p (next_index q) (record { statement = k; at = j })
   next_there e j whole n = record {
     statement = begun.statement;
-    at = subst (λ (x : List ℕ). At x (q.index + 1) j) (sym begun.text)
+    at = subst (λ (x : List ℕ). IsSamePlace x (q.index + 1) j) (sym begun.text)
         (laws.at_next t q.index begun.begin j _ begun.at
         (begun_round e whole ∙ ap (command_and (command_of word (parts_of word t i)) e) n));
   }
@@ -48,7 +48,7 @@ module _ (laws : CommandLaws) (p : Statements) (q : Place) (k : ℕ) (t : List �
       → PlaceIs p (next_index q) (record { statement = k; at = e })
   none_there e whole n over = record {
     statement = begun.statement;
-    at = subst (λ (x : List ℕ). At x (q.index + 1) e) (sym begun.text)
+    at = subst (λ (x : List ℕ). IsSamePlace x (q.index + 1) e) (sym begun.text)
         (laws.at_last t q.index begun.begin e _ begun.at
         (begun_round e whole ∙ ap (command_and (command_of word (parts_of word t i)) e) n) over);
   }

@@ -12,7 +12,7 @@ use Rattle.ptb_command.specs.Items.{Round, Last, Onward, in_front, with_others, 
 use Rattle.ptb_command.specs.Commands.{Part, Command, command_at, next_begin, command_and}
 use Rattle.ptb_command.specs.Commands.{after_command, command_unless, command_round, commands_from}
 use Rattle.ptb_command.specs.Commands.{commands}
-use Rattle.ptb_command.specs.Places.{At, next_place, begin_of, commands_after}
+use Rattle.ptb_command.specs.Places.{IsSamePlace, next_place, begin_of, commands_after}
 use Rattle.ptb_command.proofs.Sequences.{items_by_round}
 use Rattle.ptb_command.proofs.CommandOrder.{RoundOn, commands_on, commands_advance}
 
@@ -95,27 +95,28 @@ module _ (finding : FindingLaws) (spelling : SpellingLaws) (t : List ℕ) where
 
   -- ---- places
 
-  pub at_first : At t 0 0
+  pub at_first : IsSamePlace t 0 0
   at_first = record { left = refl; within = omega arith }
 
-  pub at_there : (k b : ℕ) → At t k b → is_over t b ≡ false → slice_get (commands t) k ≡ Some (command_at t b)
+  pub at_there : (k b : ℕ) → IsSamePlace t k b → is_over t b ≡ false → slice_get (commands t) k ≡ Some (command_at t b)
   at_there k b at h = let there = commands_there b h in
       index_there (commands t) there.0 (command_at t b) k (at.left ∙ there.1)
 
-  pub at_none : (k b : ℕ) → At t k b → is_over t b ≡ true → slice_get (commands t) k ≡ None
+  pub at_none : (k b : ℕ) → IsSamePlace t k b → is_over t b ≡ true → slice_get (commands t) k ≡ None
   at_none k b at h = index_none (commands t) k (at.left ∙ commands_over b h)
 
-  at_suc : (k b j : ℕ) (c : Command) → At t k b → command_round t b ≡ Onward c j → At t (suc k) j
+  at_suc : (k b j : ℕ) (c : Command) → IsSamePlace t k b → command_round t b ≡ Onward c j → IsSamePlace t (suc k) j
   at_suc k b j c at e = record {
     left = drop_there (commands t) (commands_from t j) c k (at.left ∙ commands_by_round b ∙ ap (commands_after t) e);
     within = ((commands_advance finding spelling t).ahead b j c e).within;
   }
 
-  pub at_next : (k b j : ℕ) (c : Command) → At t k b → command_round t b ≡ Onward c j → At t (k + 1) j
+  pub at_next : (k b j : ℕ) (c : Command) → IsSamePlace t k b → command_round t b ≡ Onward c j → IsSamePlace t (k + 1) j
   at_next k b j c at e = rw add-one (at_suc k b j c at e)
 
-  pub at_last : (k b e : ℕ) (c : Command) → At t k b → command_round t b ≡ Last (Whole (c ∷ []) e) → is_over t e ≡ true
-      → At t (k + 1) e
+  pub at_last : (k b e : ℕ) (c : Command) → IsSamePlace t k b → command_round t b ≡ Last (Whole (c ∷ []) e)
+      → is_over t e ≡ true
+      → IsSamePlace t (k + 1) e
   at_last k b e c at r over = rw add-one (record {
     left = drop_there (commands t) [] c k (at.left ∙ commands_by_round b ∙ ap (commands_after t) r)
         ∙ sym (commands_over e over);
@@ -128,13 +129,13 @@ module _ (finding : FindingLaws) (spelling : SpellingLaws) (t : List ℕ) where
   from_next (Last r) j e = absurd cc
   from_next (Onward c i) j e = let same : i ≡ j = cc in (c, ap (Onward c) same)
 
-  pub begins_at : (k b : ℕ) → begin_of t k ≡ Some b → At t k b
+  pub begins_at : (k b : ℕ) → begin_of t k ≡ Some b → IsSamePlace t k b
   unfolding begin_of
-  begins_at zero b e = let same : 0 ≡ b = cc in subst (At t 0) same at_first
+  begins_at zero b e = let same : 0 ≡ b = cc in subst (IsSamePlace t 0) same at_first
   begins_at (suc k) b e = by_begin (begin_of t k) refl (λ i h. begins_at k i h) e
     where
-      by_begin : (o : Option ℕ) → begin_of t k ≡ o → ((i : ℕ) → begin_of t k ≡ Some i → At t k i)
-          → option_and_then (λ i. next_place (command_round t i)) o ≡ Some b → At t (suc k) b
+      by_begin : (o : Option ℕ) → begin_of t k ≡ o → ((i : ℕ) → begin_of t k ≡ Some i → IsSamePlace t k i)
+          → option_and_then (λ i. next_place (command_round t i)) o ≡ Some b → IsSamePlace t (suc k) b
       by_begin None h at e = absurd cc
       by_begin (Some i) h at e = let r = from_next (command_round t i) b e in at_suc k i b r.0 (at i h) r.1
 

@@ -10,7 +10,7 @@ use Rattle.ptb_command.specs.Items.{Round, Last, Onward, with_others, items_with
 use Rattle.ptb_command.specs.Commands.{Part, Command, comma_round, assignment, print_item}
 use Rattle.ptb_command.specs.Commands.{item_round, input_item, parts_of, command_at, command_round}
 use Rattle.ptb_command.specs.Commands.{commands_from, commands}
-use Rattle.ptb_command.specs.Places.{At, begin_of, commands_after}
+use Rattle.ptb_command.specs.Places.{IsSamePlace, begin_of, commands_after}
 
 -- ---- parts and commands
 
@@ -45,19 +45,20 @@ pub record CommandLaws : Type 0 where
   pub parts_end :
       (word : Word) (t : List ℕ) (i e : ℕ) (parts : List Part) → parts_of word t i ≡ Whole parts e → LiesOn t i e
   -- an index and a byte place, from the statement's beginning on
-  pub at_first : (t : List ℕ) → At t 0 0
+  pub at_first : (t : List ℕ) → IsSamePlace t 0 0
   pub at_next :
-      (t : List ℕ) (k b j : ℕ) (c : Command) → At t k b → command_round t b ≡ Onward c j → At t (k + 1) j
+      (t : List ℕ) (k b j : ℕ) (c : Command) → IsSamePlace t k b → command_round t b ≡ Onward c j
+      → IsSamePlace t (k + 1) j
   pub at_last :
-      (t : List ℕ) (k b e : ℕ) (c : Command) → At t k b → command_round t b ≡ Last (Whole (c ∷ []) e)
-      → is_over t e ≡ true → At t (k + 1) e
+      (t : List ℕ) (k b e : ℕ) (c : Command) → IsSamePlace t k b → command_round t b ≡ Last (Whole (c ∷ []) e)
+      → is_over t e ≡ true → IsSamePlace t (k + 1) e
   -- which command is there, if one is
   pub at_there :
-      (t : List ℕ) (k b : ℕ) → At t k b → is_over t b ≡ false
+      (t : List ℕ) (k b : ℕ) → IsSamePlace t k b → is_over t b ≡ false
       → slice_get (commands t) k ≡ Some (command_at t b)
-  pub at_none : (t : List ℕ) (k b : ℕ) → At t k b → is_over t b ≡ true → slice_get (commands t) k ≡ None
+  pub at_none : (t : List ℕ) (k b : ℕ) → IsSamePlace t k b → is_over t b ≡ true → slice_get (commands t) k ≡ None
   -- each command has a byte place, from which on the text lists it and those after it
-  pub begins_at : (t : List ℕ) (k b : ℕ) → begin_of t k ≡ Some b → At t k b
+  pub begins_at : (t : List ℕ) (k b : ℕ) → begin_of t k ≡ Some b → IsSamePlace t k b
   pub begins :
       (t : List ℕ) (k : ℕ) (c : Command) → slice_get (commands t) k ≡ Some c
       → (b : ℕ) × (begin_of t k ≡ Some b) × (is_over t b ≡ false) × (command_at t b ≡ c)

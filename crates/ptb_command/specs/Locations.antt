@@ -10,7 +10,7 @@ use Rattle.ptb_text.specs.Words.{is_over}
 use Rattle.ptb_command.specs.declared.location.Location.{Location}
 use Rattle.ptb_command.specs.Commands.{command_at}
 use Rattle.ptb_command.specs.State.{Place, text_of, next_command}
-use Rattle.ptb_command.specs.Places.{At}
+use Rattle.ptb_command.specs.Places.{IsSamePlace}
 
 -- ---- places
 
@@ -18,7 +18,7 @@ use Rattle.ptb_command.specs.Places.{At}
 -- the command begins
 pub record PlaceIs (p : Statements) (q : Place) (m : Location) : Type 0 where
   pub statement : slice_get p m.statement ≡ Some (q.number, text_of p q.number)
-  pub at : At (text_of p q.number) q.index m.at
+  pub at : IsSamePlace (text_of p q.number) q.index m.at
 
 -- n and t are the number and the text of the statement at place i, if there is one
 abbrev pub IsLineAt : Statements → ℕ → ℤ → List ℕ → Type 0

@@ -1,6 +1,6 @@
 -- This file defines where in the text of a statement its commands begin.
--- Main definition: `At`.
---     At t k b                 index k among the commands of t, and byte place b in t, are one place
+-- Main definition: `IsSamePlace`.
+--     IsSamePlace t k b        index k among the commands of t, and byte place b in t, are one place
 --     begin_of t k             the byte place at which the command of index k begins
 --     commands_after t r       the commands that a round reads, and those after it
 use Rattle.std.specs.Prelude.{◌≡◌, ℕ, zero, suc, ◌≤◌, List, ◌∷◌, length, drop, Option, Some, None}
@@ -10,7 +10,7 @@ use Rattle.ptb_command.specs.Items.{Round, Last, Onward}
 use Rattle.ptb_command.specs.Commands.{Command, command_round, commands_from, commands}
 
 -- from there on the same commands are left
-pub record At (t : List ℕ) (k b : ℕ) : Type 0 where
+pub record IsSamePlace (t : List ℕ) (k b : ℕ) : Type 0 where
   pub left : drop k (commands t) ≡ commands_from t b
   pub within : b ≤ length t
 

@@ -13,7 +13,7 @@ use Rattle.ptb_command.specs.declared.stack.Open.TheVariants as opens
 use Rattle.ptb_command.specs.Commands.{parts_of, command_of, command_at}
 use Rattle.ptb_command.specs.State.{State, Place, Loop, Call, text_of}
 use Rattle.ptb_command.specs.Act.{is_fresh}
-use Rattle.ptb_command.specs.Places.{At}
+use Rattle.ptb_command.specs.Places.{IsSamePlace}
 use Rattle.ptb_command.specs.Locations.{PlaceIs, PlacesAre}
 use Rattle.ptb_command.specs.Configuration.{Configuration}
 
@@ -52,7 +52,7 @@ pub record Begun (p : Statements) (q : Place) (k : ℕ) (t : List ℕ) (word : W
   pub statement : slice_get p k ≡ Some (q.number, text_of p q.number)
   pub text : text_of p q.number ≡ t
   pub begin : ℕ
-  pub at : At t q.index begin
+  pub at : IsSamePlace t q.index begin
   pub more : is_over t begin ≡ false
   pub command : command_at t begin ≡ command_of word (parts_of word t i)
   pub from : begin ≤ i

@@ -16,7 +16,7 @@ use Rattle.ptb_command.specs.Items.{items_within, items}
 use Rattle.ptb_command.specs.Commands.{Part, Command, assignment, string_at, print_item}
 use Rattle.ptb_command.specs.Commands.{print_parts, parts_of, command_at, command_round, commands_from, commands}
 use Rattle.ptb_command.specs.State.{Place, Loop, Call, text_of}
-use Rattle.ptb_command.specs.Places.{At}
+use Rattle.ptb_command.specs.Places.{IsSamePlace}
 use Rattle.ptb_command.specs.declared.location.Location.{Location}
 use Rattle.ptb_command.specs.declared.stack.Open.{Open}
 use Rattle.ptb_command.specs.declared.stack.Open.TheVariants as opens
@@ -135,7 +135,7 @@ whole_at_0 : first_kind (drop 0 (commands adds)) ≡ 0 → ⊥
 unfolding on_lines
 whole_at_0 e = one_not_none e
 
-kind_there : (k b : ℕ) → At adds k b → first_kind (drop k (commands adds)) ≡ first_kind (commands_from adds b)
+kind_there : (k b : ℕ) → IsSamePlace adds k b → first_kind (drop k (commands adds)) ≡ first_kind (commands_from adds b)
 kind_there k b at = ap first_kind at.left
 
 print_end : (k : ℕ) → drop (suc k) (commands prints) ≡ commands_from prints 5
@@ -143,7 +143,7 @@ unfolding on_lines
 print_end zero = refl
 print_end (suc k) = refl
 
-print_there : (k b : ℕ) → At adds k b → At prints k b
+print_there : (k b : ℕ) → IsSamePlace adds k b → IsSamePlace prints k b
 unfolding on_lines
 print_there zero zero at = record { left = refl; within = omega arith }
 print_there (suc k) zero at = absurd (none_at_0 k (kind_there (suc k) 0 at))
@@ -163,19 +163,19 @@ number_there k n t u e = ap (λ (o : Option (ℕ × List ℕ)). elim o [ Some x 
 
 -- a place in the first programs that is one in the second, found at the statement i with the number k
 same_number : (i k : ℕ) (q : Place) (m : Location) → k ≡ q.number → m.statement ≡ i
-    → slice_get printing i ≡ numbered k (text_of printing k) → At (text_of printing k) q.index m.at
+    → slice_get printing i ≡ numbered k (text_of printing k) → IsSamePlace (text_of printing k) q.index m.at
     → PlaceIs printing q m
 same_number i k q m n e found at = record {
   statement = ap (slice_get printing) e
       ∙ subst (λ (k : ℕ). slice_get printing i ≡ numbered k (text_of printing k)) n found;
-  at = subst (λ (k : ℕ). At (text_of printing k) q.index m.at) n at;
+  at = subst (λ (k : ℕ). IsSamePlace (text_of printing k) q.index m.at) n at;
 }
 
 there : (q : Place) (m : Location) → PlaceIs counting q m → PlaceIs printing q m
 there q m is = by_statement m.statement refl
   where
-    before : (k : ℕ) → k ≡ q.number → At (text_of counting k) q.index m.at
-    before k n = subst (λ (k : ℕ). At (text_of counting k) q.index m.at) (sym n) is.at
+    before : (k : ℕ) → k ≡ q.number → IsSamePlace (text_of counting k) q.index m.at
+    before k n = subst (λ (k : ℕ). IsSamePlace (text_of counting k) q.index m.at) (sym n) is.at
 
     by_statement : (i : ℕ) → m.statement ≡ i → PlaceIs printing q m
     by_statement zero e =
