@@ -12,7 +12,7 @@ pub use Rattle.ptb_expr.specs.Operators.{product_operator, sum_operator, compari
 pub use Rattle.ptb_expr.specs.Reading.{item_of}
 pub use Rattle.ptb_expr.specs.Spells.{Spells, Variable, Expr, Sum, First, Product, Factor, Paren}
 pub use Rattle.ptb_expr.specs.Starts.{BeginsFactor, IsBefore, start_room, sign_of, with_before, room_before, IsFirst}
-pub use Rattle.ptb_expr.specs.Stops.{HasResult, Ends, IfFull}
+pub use Rattle.ptb_expr.specs.Stops.{HasResult, RunsOn, IfFull}
 pub use Rattle.ptb_expr.specs.Store.{map_ok}
 pub use Rattle.ptb_expr.specs.Translation.{AreStepsOf, IsMalformed, IsVariableRead, IsVariable}
 pub use Rattle.ptb_expr.specs.TreeSteps.{plain_step, after_step, run, waiting}
