@@ -246,14 +246,14 @@ pub record LongRows : Type 0 where
       (codes "     5" ++ (10 ∷ []), End)
 
 -- the steps and the ending of a run without input and answers
-abbrev pub steps_of : Outcome Finish (List ℕ) → Option (ℕ × Ending)
-steps_of (Done f rest) = Some (f.steps, f.ending)
-steps_of (Asks n shown) = None
-steps_of (Out n shown) = None
+abbrev pub outcome_steps : Outcome Finish (List ℕ) → Option (ℕ × Ending)
+outcome_steps (Done f rest) = Some (f.steps, f.ending)
+outcome_steps (Asks n shown) = None
+outcome_steps (Out n shown) = None
 
 abbrev pub steps_and_ending : List ℕ → Option (ℕ × Ending)
 steps_and_ending b = elim (program 4096 b) [
-  | Ok p ↦ steps_of (play (record { lines = p; memory = 4096 }) []
+  | Ok p ↦ outcome_steps (play (record { lines = p; memory = 4096 }) []
       (record { limit = 10000; choose = None; in_range = tt }) [])
   | Err e ↦ None
 ]

@@ -42,18 +42,18 @@ use Rattle.ptb_answers.specs.AnswerText.{unmarked, with_bound, without_bound}
 use Rattle.ptb_explore.specs.Report.{report}
 
 -- a text of these lines
-abbrev pub text : List (List ℕ) → List ℕ
-text lines = flat_map (λ l. l ++ 10 ∷ []) lines
+abbrev pub lines_text : List (List ℕ) → List ℕ
+lines_text lines = flat_map (λ l. l ++ 10 ∷ []) lines
 
 abbrev pub one_line : List ℕ → List ℕ
-one_line l = text (l ∷ [])
+one_line l = lines_text (l ∷ [])
 
 -- the rules of a request that gives neither steps nor a bound for answers instead of lines
 abbrev pub default_rules : Rules
 default_rules = record { limit = default_steps; choose = None; in_range = tt }
 
-abbrev pub limited : ℕ → Request → Request
-limited steps request = record request { rules = record default_rules { limit = steps } }
+abbrev pub with_limit : ℕ → Request → Request
+with_limit steps request = record request { rules = record default_rules { limit = steps } }
 
 abbrev pub choosing : (bound : ℤ) → pos 1 ≤ℤ bound → Request → Request
 choosing bound positive request =
@@ -70,8 +70,8 @@ abbrev pub with_least_memory : Request → Request
 with_least_memory request = record request { memory = 64; in_range = least_size }
 
 -- requests with the rules and the memory of one that gives none
-abbrev pub run : List ℤ → Request
-run answers = record {
+abbrev pub plain_request : List ℤ → Request
+plain_request answers = record {
   rules = default_rules;
   memory = default_memory;
   mode = modes.Plain answers;
@@ -106,7 +106,8 @@ pub record SplitRows : Type 0 where
   pub no_program : reply_to (splitting 1 Two) [] [] ≡ reply_with (codes "none\n")
   -- a list may end within a command, and a run at its limit
   pub within_command : reply_to (splitting 1 Two) (codes "10 P.RND(2)*RND(3)") [] ≡ reply_with (codes "1/2\n2/2\n")
-  pub limit : reply_to (limited 1 (splitting 2 Two)) (codes "10 A=RND(2);B=RND(2)") [] ≡ reply_with (codes "1/2\n2/2\n")
+  pub limit : reply_to (with_limit 1 (splitting 2 Two)) (codes "10 A=RND(2);B=RND(2)") [] ≡ reply_with
+      (codes "1/2\n2/2\n")
   pub fault : reply_to (splitting 2 One) (codes "10 A=RND(2)-1;B=RND(A);C=RND(2)") [] ≡ reply_with (codes "1\n2,1\n")
   -- the input is that of each run
   pub rolled_input : reply_to (splitting 1 Two) (codes "10 INPUT A;PRINT RND(9)")
@@ -174,29 +175,35 @@ pub record CheckRows : Type 0 where
   pub refused : reply_to check (codes "0 P.") [] ≡ refusal (notes.Load 1 NoNumber)
 
 -- the chances of all results
-abbrev pub chances : Request
-chances = record { rules = default_rules; memory = default_memory; mode = modes.Chances; in_range = default_size }
+abbrev pub chances_request : Request
+chances_request = record {
+  rules = default_rules;
+  memory = default_memory;
+  mode = modes.Chances;
+  in_range = default_size;
+}
 
 pub record ChanceRows : Type 0 where
-  pub no_program : reply_to chances [] [] ≡ reply_with (codes "CHANCE 1/1 1 END 0\n\n")
-  pub rolled_again : reply_to chances (codes "10 A=RND(2);IF A=2 A=RND(3)\n20 P.#1,A") [] ≡ reply_with
+  pub no_program : reply_to chances_request [] [] ≡ reply_with (codes "CHANCE 1/1 1 END 0\n\n")
+  pub rolled_again : reply_to chances_request (codes "10 A=RND(2);IF A=2 A=RND(3)\n20 P.#1,A") [] ≡ reply_with
       (codes "CHANCE 2/3 2 END 1\n1\nCHANCE 1/6 1 END 1\n2\nCHANCE 1/6 1 END 1\n3\n")
-  pub limit : reply_to (limited 5 chances) (codes "10 A=RND(2)\n20 IF A=1 GOTO 10") [] ≡ reply_with
+  pub limit : reply_to (with_limit 5 chances_request) (codes "10 A=RND(2)\n20 IF A=1 GOTO 10") [] ≡ reply_with
       (codes "CHANCE 3/4 2 END 0\n\nCHANCE 1/4 1 LIMIT 0\n\n")
   -- the signs of the sums are bytes of the lines, and a minus sign comes before the digits
   pub four_tosses :
-      reply_to chances (codes "10 F.I=1TO4;A=A+RND(2)*2-3;N.I;P.#1,A") []
+      reply_to chances_request (codes "10 F.I=1TO4;A=A+RND(2)*2-3;N.I;P.#1,A") []
       ≡ reply_with (codes "CHANCE 1/4 4 END 2\n-2\nCHANCE 1/16 1 END 2\n-4\nCHANCE 3/8 6 END 1\n0\n"
       ++ codes "CHANCE 1/4 4 END 1\n2\nCHANCE 1/16 1 END 1\n4\n")
   pub each_ending :
-      reply_to chances (codes "10 A=RND(3);P.#1,A;IF A=1 STOP\n20 IF A=2 P.1/0") []
+      reply_to chances_request (codes "10 A=RND(3);P.#1,A;IF A=1 STOP\n20 IF A=2 P.1/0") []
       ≡ reply_with (codes "CHANCE 1/3 1 END 1\n3\nCHANCE 1/3 1 STOP 1\n1\nCHANCE 1/3 1 HOW 16\n20 IF A=2 P.1/0?\n")
-  pub rolled_input : reply_to chances (codes "10 INPUT A;P.#1,A") (one_line (codes "RND(2)")) ≡ reply_with
+  pub rolled_input : reply_to chances_request (codes "10 INPUT A;P.#1,A") (one_line (codes "RND(2)")) ≡ reply_with
       (codes "CHANCE 1/2 1 END 1\n1\nCHANCE 1/2 1 END 1\n2\n")
-  pub instead_of_lines : reply_to (choosing (pos 2) (le_z_yes tt) chances) (codes "10 INPUT A") [] ≡ reply_with
+  pub instead_of_lines : reply_to (choosing (pos 2) (le_z_yes tt) chances_request) (codes "10 INPUT A") [] ≡ reply_with
       (codes "CHANCE 1/2 1 END 3\nA:1\nCHANCE 1/2 1 END 3\nA:2\n")
-  pub no_input : reply_to chances (codes "10 INPUT A;P.RND(2)") [] ≡ reply_with (codes "CHANCE 1/1 1 NOINPUT 2\nA:\n")
-  pub refused : reply_to chances (codes "0 P.") [] ≡ refusal (notes.Load 1 NoNumber)
+  pub no_input : reply_to chances_request (codes "10 INPUT A;P.RND(2)") [] ≡ reply_with
+      (codes "CHANCE 1/1 1 NOINPUT 2\nA:\n")
+  pub refused : reply_to chances_request (codes "0 P.") [] ≡ refusal (notes.Load 1 NoNumber)
 
 -- the report of a run whose answers are 69 times 1 and then these
 abbrev pub long_report : List ℕ → List ℕ
@@ -208,21 +215,23 @@ abbrev pub run_end : List ℕ → ℕ → Reply
 run_end bytes status = record { bytes = bytes; status = status; note = None }
 
 pub record RunRows : Type 0 where
-  pub greeting : reply_to (run []) (codes "10 PRINT \"HI\"") [] ≡ reply_with (one_line (codes "HI"))
-  pub one_answer : reply_to (run (pos 2 ∷ [])) (codes "10 P.RND(2)") [] ≡ run_end (one_line (codes "     2")) 0
-  pub answers_left : reply_to (run (pos 1 ∷ pos 9 ∷ [])) (codes "10 P.RND(2)") [] ≡ run_end
+  pub greeting : reply_to (plain_request []) (codes "10 PRINT \"HI\"") [] ≡ reply_with (one_line (codes "HI"))
+  pub one_answer : reply_to (plain_request (pos 2 ∷ [])) (codes "10 P.RND(2)") [] ≡ run_end
+      (one_line (codes "     2")) 0
+  pub answers_left : reply_to (plain_request (pos 1 ∷ pos 9 ∷ [])) (codes "10 P.RND(2)") [] ≡ run_end
       (one_line (codes "     1")) 0
-  pub no_answer : reply_to (run []) (codes "10 P.RND(2)") [] ≡ run_end [] 6
-  pub bad_answer : reply_to (run (pos 3 ∷ [])) (codes "10 P.RND(2)") [] ≡ run_end [] 7
-  pub limit : reply_to (limited 5 (run [])) (codes "10 GOTO 10") [] ≡ run_end [] 4
-  pub fault : reply_to (run []) (codes "10 PRINT -(-32767-1)") [] ≡ run_end
-      (text (codes "HOW?" ∷ codes "10 PRINT -(-32767-1)?" ∷ [])) 2
-  pub input : reply_to (run []) (codes "10 INPUT A") (text (codes ")" ∷ codes "5" ∷ [])) ≡ run_end (text
+  pub no_answer : reply_to (plain_request []) (codes "10 P.RND(2)") [] ≡ run_end [] 6
+  pub bad_answer : reply_to (plain_request (pos 3 ∷ [])) (codes "10 P.RND(2)") [] ≡ run_end [] 7
+  pub limit : reply_to (with_limit 5 (plain_request [])) (codes "10 GOTO 10") [] ≡ run_end [] 4
+  pub fault : reply_to (plain_request []) (codes "10 PRINT -(-32767-1)") [] ≡ run_end
+      (lines_text (codes "HOW?" ∷ codes "10 PRINT -(-32767-1)?" ∷ [])) 2
+  pub input : reply_to (plain_request []) (codes "10 INPUT A") (lines_text (codes ")" ∷ codes "5" ∷ [])) ≡ run_end
+      (lines_text
       (codes "A:)" ∷ codes "WHAT?" ∷ codes "A:5" ∷ [])) 0
-  pub no_input : reply_to (run []) (codes "10 INPUT A") (one_line (codes ")")) ≡ run_end (text
+  pub no_input : reply_to (plain_request []) (codes "10 INPUT A") (one_line (codes ")")) ≡ run_end (lines_text
       (codes "A:)" ∷ codes "WHAT?" ∷ []) ++ codes "A:") 5
-  pub small_memory : reply_to (with_least_memory (run [])) (codes "10 @(28)=1") [] ≡ run_end
-      (text (codes "SORRY" ∷ codes "10 @(28)?=1" ∷ [])) 3
+  pub small_memory : reply_to (with_least_memory (plain_request [])) (codes "10 @(28)=1") [] ≡ run_end
+      (lines_text (codes "SORRY" ∷ codes "10 @(28)?=1" ∷ [])) 3
 
 -- runs whose answers are drawn from a seed
 pub record SeedRows : Type 0 where
@@ -236,10 +245,11 @@ pub record SeedRows : Type 0 where
   pub greatest : reply_to (seeded 4294967295) (codes "10 P.RND(6),RND(6),RND(6)") [] ≡ run_end
       (one_line (codes "     4     2     5")) 0
   pub rolled_input : reply_to (seeded 7) (codes "10 INPUT A;PRINT A") (one_line (codes "RND(6)")) ≡ run_end
-      (text (codes "A:RND(6)" ∷ codes "     3" ∷ [])) 0
+      (lines_text (codes "A:RND(6)" ∷ codes "     3" ∷ [])) 0
   pub no_input : reply_to (seeded 7) (codes "10 INPUT A") [] ≡ run_end (codes "A:") 5
-  pub fault : reply_to (seeded 7) (codes "10 P.RND(0)") [] ≡ run_end (text (codes "HOW?" ∷ codes "10 P.RND(0)?" ∷ [])) 2
-  pub limit : reply_to (limited 5 (seeded 7)) (codes "10 A=RND(2);GOTO 10") [] ≡ run_end [] 4
+  pub fault : reply_to (seeded 7) (codes "10 P.RND(0)") [] ≡ run_end
+      (lines_text (codes "HOW?" ∷ codes "10 P.RND(0)?" ∷ [])) 2
+  pub limit : reply_to (with_limit 5 (seeded 7)) (codes "10 A=RND(2);GOTO 10") [] ≡ run_end [] 4
   pub refused : reply_to (seeded 7) (codes "0 P.") [] ≡ refusal (notes.Load 1 NoNumber)
 
 -- answers instead of missing lines
@@ -252,20 +262,23 @@ pub record ChoiceRows : Type 0 where
   pub index_and_value : reply_to (choosing (pos 2) (le_z_yes tt) all) (codes "10 INPUT @(RND(2)-1)") [] ≡ reply_with (
       codes "RUN 1,1 END 1 14\n@(RND(2)-1):1\n\n" ++ codes "RUN 1,2 END 1 14\n@(RND(2)-1):2\n\n"
       ++ codes "RUN 2,1 END 1 14\n@(RND(2)-1):1\n\n" ++ codes "RUN 2,2 END 1 14\n@(RND(2)-1):2\n\n")
-  pub no_answer : reply_to (choosing (pos 2) (le_z_yes tt) (run [])) (codes "10 INPUT A;PRINT A") [] ≡ run_end
+  pub no_answer : reply_to (choosing (pos 2) (le_z_yes tt) (plain_request [])) (codes "10 INPUT A;PRINT A") [] ≡ run_end
       (codes "A:") 6
-  pub bad_answer : reply_to (choosing (pos 2) (le_z_yes tt) (run (pos 3 ∷ [])))
+  pub bad_answer : reply_to (choosing (pos 2) (le_z_yes tt) (plain_request (pos 3 ∷ [])))
       (codes "10 INPUT A;PRINT A") [] ≡ run_end (codes "A:") 7
-  pub answer : reply_to (choosing (pos 2) (le_z_yes tt) (run (pos 2 ∷ []))) (codes "10 INPUT A;PRINT A") [] ≡ run_end
+  pub answer : reply_to (choosing (pos 2) (le_z_yes tt) (plain_request (pos 2 ∷ [])))
+      (codes "10 INPUT A;PRINT A") [] ≡ run_end
       (codes "A:2\n     2\n") 0
   -- a line that is left is taken first
-  pub line_first : reply_to (choosing (pos 9) (le_z_yes tt) (run (pos 9 ∷ []))) (codes "10 INPUT A,B;PRINT A-B")
+  pub line_first : reply_to (choosing (pos 9) (le_z_yes tt) (plain_request (pos 9 ∷ [])))
+      (codes "10 INPUT A,B;PRINT A-B")
       (codes "5\n") ≡ run_end (codes "A:5\nB:9\n    -4\n") 0
   pub no_line_asked_for : reply_to (choosing (pos 9) (le_z_yes tt) all) (codes "10 PRINT 1") [] ≡ reply_with
       (codes "RUN none END 1 7\n     1\n\n")
   pub only_answer : reply_to (choosing (pos 1) (le_z_yes tt) all) (codes "10 INPUT A") [] ≡ reply_with
       (codes "RUN 1 END 1 4\nA:1\n\n")
-  pub greatest : reply_to (choosing (pos 32767) (le_z_yes tt) (run (pos 32767 ∷ []))) (codes "10 INPUT A") [] ≡ run_end
+  pub greatest : reply_to (choosing (pos 32767) (le_z_yes tt) (plain_request (pos 32767 ∷ [])))
+      (codes "10 INPUT A") [] ≡ run_end
       (codes "A:32767\n") 0
   -- by a seed they are drawn as for RND
   pub drawn : reply_to (choosing (pos 6) (le_z_yes tt) (seeded 7)) (codes "10 INPUT A;PRINT RND(6)") [] ≡ run_end
@@ -282,42 +295,44 @@ pub record ChoiceRows : Type 0 where
 
 -- programs that run once
 pub record ProgramRows : Type 0 where
-  pub lines_in_order : reply_to (run []) (codes "20 P.\"B\"\n10 P.'A',;P.\n") [] ≡ run_end (codes "A\nB\n") 0
-  pub least_number : reply_to (run []) (codes "10 PRINT -32767-1") [] ≡ run_end (codes "-32768\n") 0
-  pub rolled_input : reply_to (run (pos 1 ∷ [])) (codes "10 INPUT A;PRINT A") (codes "RND(2)\n") ≡ run_end
+  pub lines_in_order : reply_to (plain_request []) (codes "20 P.\"B\"\n10 P.'A',;P.\n") [] ≡ run_end (codes "A\nB\n") 0
+  pub least_number : reply_to (plain_request []) (codes "10 PRINT -32767-1") [] ≡ run_end (codes "-32768\n") 0
+  pub rolled_input : reply_to (plain_request (pos 1 ∷ [])) (codes "10 INPUT A;PRINT A") (codes "RND(2)\n") ≡ run_end
       (codes "A:RND(2)\n     1\n") 0
-  pub loop : reply_to (run []) (codes "10 F.I=1TO3S.2;P.I,;N.I") [] ≡ run_end (codes "     1     3") 0
-  pub strings : reply_to (run []) (codes "10 PRINT 'ABC',_,\"X\",#3,7") [] ≡ run_end
+  pub loop : reply_to (plain_request []) (codes "10 F.I=1TO3S.2;P.I,;N.I") [] ≡ run_end (codes "     1     3") 0
+  pub strings : reply_to (plain_request []) (codes "10 PRINT 'ABC',_,\"X\",#3,7") [] ≡ run_end
       (codes "ABC" ++ 13 ∷ codes "X  7\n") 0
-  pub endless_calls : reply_to (run []) (codes "10 GOSUB 10") [] ≡ run_end (codes "SORRY\n10 GOSUB 10?\n") 3
-  pub product_too_great : reply_to (run []) (codes "300 B=200,C=200\n310 LET A=B*C+2\n") [] ≡ run_end
+  pub endless_calls : reply_to (plain_request []) (codes "10 GOSUB 10") [] ≡ run_end (codes "SORRY\n10 GOSUB 10?\n") 3
+  pub product_too_great : reply_to (plain_request []) (codes "300 B=200,C=200\n310 LET A=B*C+2\n") [] ≡ run_end
       (codes "HOW?\n310 LET A=B*C?+2\n") 2
-  pub index_asked_again : reply_to (run (pos 1 ∷ pos 1 ∷ [])) (codes "10 INPUT @(RND(2))")
+  pub index_asked_again : reply_to (plain_request (pos 1 ∷ pos 1 ∷ [])) (codes "10 INPUT @(RND(2))")
       (codes ")\n5\n") ≡ run_end (codes "@(RND(2)):)\nWHAT?\n@(RND(2)):5\n") 0
-  pub last_element : reply_to (with_least_memory (run [])) (codes "10 @(27)=1") [] ≡ run_end [] 0
-  pub size : reply_to (run []) (codes "10 PRINT SIZE") [] ≡ run_end (codes "  4083\n") 0
-  pub loop_of_subroutine : reply_to (run []) (codes "10 GOS.30;N.J\n30 F.J=1TO9;R.\n") [] ≡ run_end
+  pub last_element : reply_to (with_least_memory (plain_request [])) (codes "10 @(27)=1") [] ≡ run_end [] 0
+  pub size : reply_to (plain_request []) (codes "10 PRINT SIZE") [] ≡ run_end (codes "  4083\n") 0
+  pub loop_of_subroutine : reply_to (plain_request []) (codes "10 GOS.30;N.J\n30 F.J=1TO9;R.\n") [] ≡ run_end
       (codes "WHAT?\n10 GOS.30;N.J?\n") 1
-  pub stop : reply_to (run []) (codes "10 GOSUB 40;P.1\n20 STOP\n40 P.2;RETURN\n") [] ≡ run_end
+  pub stop : reply_to (plain_request []) (codes "10 GOSUB 40;P.1\n20 STOP\n40 P.2;RETURN\n") [] ≡ run_end
       (codes "     2\n     1\n") 0
-  pub end_at_limit : reply_to (limited 1 (run [])) (codes "10 P.1") [] ≡ run_end (codes "     1\n") 0
-  pub missing_line : reply_to (run []) (codes "10 INPUT A,B") (codes "5\n") ≡ run_end (codes "A:5\nB:") 5
+  pub end_at_limit : reply_to (with_limit 1 (plain_request [])) (codes "10 P.1") [] ≡ run_end (codes "     1\n") 0
+  pub missing_line : reply_to (plain_request []) (codes "10 INPUT A,B") (codes "5\n") ≡ run_end (codes "A:5\nB:") 5
 
 -- the examples of docs/LANGUAGE.md
 pub record ExampleRows : Type 0 where
-  pub two_dice : reply_to (run (pos 4 ∷ pos 4 ∷ pos 1 ∷ pos 6 ∷ [])) (text (
+  pub two_dice : reply_to (plain_request (pos 4 ∷ pos 4 ∷ pos 1 ∷ pos 6 ∷ [])) (lines_text (
       codes "10 REM TWO DICE" ∷ codes "20 A=RND(6),B=RND(6);PRINT \"YOU ROLL\",#3,A,B;IF A=B GOTO 20"
       ∷ codes "30 PRINT \"SUM\",A+B" ∷ [])) []
       ≡ run_end (codes "YOU ROLL  4  4\nYOU ROLL  1  6\nSUM     7\n") 0
-  pub many : reply_to (run []) (codes "10 INPUT \"HOW MANY\"N;PRINT N*N") (codes "MANY\n") ≡ run_end
+  pub many : reply_to (plain_request []) (codes "10 INPUT \"HOW MANY\"N;PRINT N*N") (codes "MANY\n") ≡ run_end
       (codes "HOW MANY:MANY\n     0\n") 0
-  pub twelve : reply_to (run []) (codes "10 INPUT \"HOW MANY\"N;PRINT N*N")
+  pub twelve : reply_to (plain_request []) (codes "10 INPUT \"HOW MANY\"N;PRINT N*N")
       (codes "(\n12\n") ≡ run_end (codes "HOW MANY:(\nWHAT?\nHOW MANY:12\n   144\n") 0
-  pub open_paren : reply_to (run []) (codes "10 PRINT (1+2") [] ≡ run_end (codes "WHAT?\n10 PRINT (1+2?\n") 1
-  pub blank_before_mark : reply_to (run []) (codes "10 A=1/0 ;PRINT A") [] ≡ run_end
+  pub open_paren : reply_to (plain_request []) (codes "10 PRINT (1+2") [] ≡ run_end (codes "WHAT?\n10 PRINT (1+2?\n") 1
+  pub blank_before_mark : reply_to (plain_request []) (codes "10 A=1/0 ;PRINT A") [] ≡ run_end
       (codes "HOW?\n10 A=1/0 ?;PRINT A\n") 2
-  pub no_blanks : reply_to (run []) (codes "10 FORI=1TO3;PRINTI,;NEXTI") [] ≡ run_end (codes "     1     2     3") 0
-  pub blank_in_word : reply_to (run []) (codes "10 G O T O 10") [] ≡ run_end (codes "WHAT?\n10 G ?O T O 10\n") 1
+  pub no_blanks : reply_to (plain_request []) (codes "10 FORI=1TO3;PRINTI,;NEXTI") [] ≡ run_end
+      (codes "     1     2     3") 0
+  pub blank_in_word : reply_to (plain_request []) (codes "10 G O T O 10") [] ≡ run_end
+      (codes "WHAT?\n10 G ?O T O 10\n") 1
 
 -- whether a list of answers is a run of a program without input, and its report
 abbrev pub run_of : List ℕ → ℕ → List ℤ → Option (Bool × List ℕ)
@@ -350,13 +365,14 @@ pub record AllRows : Type 0 where
       (codes "RUN 1 END 2 0\n\nRUN 2,1 END 4 7\n     1\n\nRUN 2,2 END 4 7\n     2\n\nRUN 2,3 END 4 7\n     3\n\n")
   pub faulty_run : reply_to all (codes "10 A=RND(2)-1;B=RND(A)") [] ≡ reply_with
       (codes "RUN 1 HOW 2 29\nHOW?\n10 A=RND(2)-1;B=RND(A)?\n\nRUN 2,1 END 2 0\n\n")
-  pub limit : reply_to (limited 5 all) (codes "10 GOTO 10") [] ≡ reply_with (codes "RUN none LIMIT 5 0\n\n")
-  pub limit_between : reply_to (limited 1 all) (codes "10 A=RND(2);B=RND(2)") [] ≡ reply_with
+  pub limit : reply_to (with_limit 5 all) (codes "10 GOTO 10") [] ≡ reply_with (codes "RUN none LIMIT 5 0\n\n")
+  pub limit_between : reply_to (with_limit 1 all) (codes "10 A=RND(2);B=RND(2)") [] ≡ reply_with
       (codes "RUN 1 LIMIT 1 0\n\nRUN 2 LIMIT 1 0\n\n")
   pub rolled_input : reply_to all (codes "10 INPUT A;PRINT A") (one_line (codes "RND(2)")) ≡ reply_with
       (codes "RUN 1 END 2 16\nA:RND(2)\n     1\n\nRUN 2 END 2 16\nA:RND(2)\n     2\n\n")
   pub no_input : reply_to all (codes "10 INPUT A") [] ≡ reply_with (codes "RUN none NOINPUT 1 2\nA:\n")
-  pub index_asked_again : reply_to all (codes "10 INPUT @(RND(2))") (text (codes ")" ∷ codes "5" ∷ [])) ≡ reply_with (
+  pub index_asked_again : reply_to all (codes "10 INPUT @(RND(2))") (lines_text (codes ")" ∷ codes "5" ∷ [])) ≡
+      reply_with (
       codes "RUN 1,1 END 1 30\n@(RND(2)):)\nWHAT?\n@(RND(2)):5\n\n"
       ++ codes "RUN 1,2 END 1 30\n@(RND(2)):)\nWHAT?\n@(RND(2)):5\n\n"
       ++ codes "RUN 2,1 END 1 30\n@(RND(2)):)\nWHAT?\n@(RND(2)):5\n\n"
@@ -364,7 +380,7 @@ pub record AllRows : Type 0 where
   pub endless_calls : reply_to all (codes "10 GOSUB 10") [] ≡ reply_with
       (codes "RUN none SORRY 257 19\nSORRY\n10 GOSUB 10?\n\n")
   pub only_answer : reply_to all (codes "10 A=RND(1)") [] ≡ reply_with (codes "RUN 1 END 1 0\n\n")
-  pub end_at_limit : reply_to (limited 1 all) (codes "10 P.1") [] ≡ reply_with (codes "RUN none END 1 7\n     1\n\n")
+  pub end_at_limit : reply_to (with_limit 1 all) (codes "10 P.1") [] ≡ reply_with (codes "RUN none END 1 7\n     1\n\n")
   pub calls_in_loops : reply_to all (codes "10 F.I=1TO1;GOS.10") [] ≡ reply_with
       (codes "RUN none SORRY 257 26\nSORRY\n10 F.I=1TO1?;GOS.10\n\n")
 
@@ -431,13 +447,13 @@ pub record SampleRows : Type 0 where
       ++ codes "RUN 2/2,1/3 END 4 7\n     1\n\n")
   -- each run begins with the first line
   pub same_lines : reply_to (sampling 7 2 One) (codes "10 INPUT A")
-      (text (codes "RND(6)" ∷ codes "5" ∷ [])) ≡ reply_with
+      (lines_text (codes "RND(6)" ∷ codes "5" ∷ [])) ≡ reply_with
       (codes "RUN 3 END 1 9\nA:RND(6)\n\n" ++ codes "RUN 5 END 1 9\nA:RND(6)\n\n")
   pub instead_of_lines : reply_to (choosing (pos 6) (le_z_yes tt) (sampling 7 1 Two))
       (codes "10 INPUT A") [] ≡ reply_with
       (codes "RUN 3/6 END 1 4\nA:3\n\n")
   pub no_input : reply_to (sampling 7 1 Two) (codes "10 INPUT A") [] ≡ reply_with (codes "RUN none NOINPUT 1 2\nA:\n")
-  pub limit : reply_to (limited 3 (sampling 7 1 Two)) (codes "10 A=RND(2);GOTO 10") [] ≡ reply_with
+  pub limit : reply_to (with_limit 3 (sampling 7 1 Two)) (codes "10 A=RND(2);GOTO 10") [] ≡ reply_with
       (codes "RUN 1/2,1/2 LIMIT 3 0\n\n")
   pub no_question : reply_to (sampling 7 2 Two) [] [] ≡ reply_with
       (codes "RUN none END 0 0\n\n" ++ codes "RUN none END 0 0\n\n")
@@ -489,40 +505,42 @@ pub record ShareRows : Type 0 where
   pub empty_program : reply_to (under [] None None) [] [] ≡ reply_with (codes "RUN none END 0 0\n\n")
 
 pub record RefusalRows : Type 0 where
-  pub number : reply_to (run []) (codes "32768 P.1") [] ≡ refusal (notes.Load 1 NumberTooBig)
-  pub no_number : reply_to (run []) (codes "0 P.") [] ≡ refusal (notes.Load 1 NoNumber)
-  pub byte : reply_to (run []) (codes "10 P." ++ 127 ∷ []) [] ≡ refusal (notes.Load 1 (BadByte 6))
-  pub full : reply_to (with_least_memory (run [])) (text (
+  pub number : reply_to (plain_request []) (codes "32768 P.1") [] ≡ refusal (notes.Load 1 NumberTooBig)
+  pub no_number : reply_to (plain_request []) (codes "0 P.") [] ≡ refusal (notes.Load 1 NoNumber)
+  pub byte : reply_to (plain_request []) (codes "10 P." ++ 127 ∷ []) [] ≡ refusal (notes.Load 1 (BadByte 6))
+  pub full : reply_to (with_least_memory (plain_request [])) (lines_text (
       codes "1 P.1" ∷ codes "2 P.1" ∷ codes "3 P.1" ∷ codes "4 P.1" ∷ codes "5 P.1" ∷ codes "6 P.1" ∷ codes "7 P.1"
       ∷ codes "8 P.1" ∷ codes "9 P.1" ∷ codes "10 P.1" ∷ codes "11 P.1" ∷ [])) [] ≡ refusal (notes.Load 11 Full)
-  pub long_text : reply_to (run []) (codes "10 A=" ++ replicate 254 57) [] ≡ refusal (notes.Load 1 TextTooLong)
-  pub long_number : reply_to (run []) (replicate 200 57 ++ codes " P.") [] ≡ refusal (notes.Load 1 NumberTooBig)
+  pub long_text : reply_to (plain_request []) (codes "10 A=" ++ replicate 254 57) [] ≡ refusal
+      (notes.Load 1 TextTooLong)
+  pub long_number : reply_to (plain_request []) (replicate 200 57 ++ codes " P.") [] ≡ refusal
+      (notes.Load 1 NumberTooBig)
   -- a refusal comes before the run to begin after is looked at
   pub all_runs : reply_to (listed_after (pos 9 ∷ [])) (codes "0 P.") [] ≡ refusal (notes.Load 1 NoNumber)
-  pub second_line : reply_to list (text (codes "10 P.1" ∷ codes "P.2" ∷ [])) [] ≡ refusal (notes.Load 2 NoNumber)
+  pub second_line : reply_to list (lines_text (codes "10 P.1" ∷ codes "P.2" ∷ [])) [] ≡ refusal (notes.Load 2 NoNumber)
 
 pub record ListingRows : Type 0 where
   pub listing : reply_to list
-      (text (codes "10 P.1" ∷ codes "20 P.2" ∷ (codes "010" ++ 9 ∷ codes "P.3" ++ 13 ∷ []) ∷ codes "20" ∷ [])) []
+      (lines_text (codes "10 P.1" ∷ codes "20 P.2" ∷ (codes "010" ++ 9 ∷ codes "P.3" ++ 13 ∷ []) ∷ codes "20" ∷ [])) []
       ≡ reply_with
       (one_line (codes "10 P.3"))
   pub empty : reply_to list [] [] ≡ reply_with []
-  pub line_order : reply_to list (text (codes "20 P.2" ∷ codes "5 P.1" ∷ [])) [] ≡ reply_with
-      (text (codes "5 P.1" ∷ codes "20 P.2" ∷ []))
+  pub line_order : reply_to list (lines_text (codes "20 P.2" ∷ codes "5 P.1" ∷ [])) [] ≡ reply_with
+      (lines_text (codes "5 P.1" ∷ codes "20 P.2" ∷ []))
 
 -- ---- the command line
 
 -- the arguments after the program's name
-abbrev pub line : List (List ℕ) → List (List ℕ)
-line words = codes "ptb" ∷ words
+abbrev pub arguments : List (List ℕ) → List (List ℕ)
+arguments words = codes "ptb" ∷ words
 
 -- what clap finds in them
 abbrev pub options : List (List ℕ) → Options
-options words = options_of (matches_of tool (line words))
+options words = options_of (matches_of tool (arguments words))
 
 -- why it finds nothing
 abbrev pub faults : List (List ℕ) → List ErrorKind
-faults words = fault_of tool (line words)
+faults words = fault_of tool (arguments words)
 
 -- options that don't go together
 pub record ClashRows : Type 0 where
