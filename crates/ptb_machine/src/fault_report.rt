@@ -79,7 +79,7 @@ fn put_joined<S: Screen>(
 /// shown then.
 ///
 /// Public so that tests can try it.
-pub fn report<S: Screen>(
+pub fn report_fault<S: Screen>(
     screen: &mut S,
     fresh: &mut bool,
     number: u16,

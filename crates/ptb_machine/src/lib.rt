@@ -36,7 +36,7 @@ mod stop_result;
 pub use complete_run::run;
 pub use ending_word::word;
 pub use fault::{RunFault, memory_refusal};
-pub use fault_report::report;
+pub use fault_report::report_fault;
 pub use laws::{effect_laws, ending_laws, run_laws, seeded_laws};
 pub use machine::Machine;
 pub use plain_run::{run_plain, run_plain_to_end, run_seeded, run_seeded_to_end};

@@ -6,7 +6,7 @@ ghost use Rattle.ptb_command.specs.CommandIo.{io_trace, SameDevices};
 ghost use Rattle.ptb_machine.specs.CommandResults.{IsResultOf, result_of_stop};
 
 use crate::fault::RunFault;
-use crate::fault_report::{ending_of, report};
+use crate::fault_report::{ending_of, report_fault};
 use ptb_answers::{Chooser, Pause};
 use ptb_command::{CommandIo, CommandStop, Ending, line_at};
 use ptb_devices::{LineSource, Screen};
@@ -51,7 +51,7 @@ pub(crate) fn result_of<C: Chooser, S: Screen, L: LineSource>(
         CommandStop::Fault(fault) => {
             let (number, text) = line_at(program, statement);
             let mut fresh = io.fresh;
-            let reported = report(io.screen, &mut fresh, number.unsigned_abs(), text, fault);
+            let reported = report_fault(io.screen, &mut fresh, number.unsigned_abs(), text, fault);
             io.fresh = fresh;
             reported?;
             Ok(Some(ending_of(fault.kind)))

@@ -2,7 +2,7 @@
 
 use crate::tests::shared::expect_eq;
 use ptb_expr::{Fault, FaultKind};
-use ptb_machine::{TextScreen, report};
+use ptb_machine::{TextScreen, report_fault};
 use std::alloc::{AllocError, Global};
 use std::process::Abort;
 
@@ -14,7 +14,7 @@ fn is_reported(screen: &mut TextScreen, fresh: bool, length: usize, mark: usize)
         return false;
     };
     let mut fresh = fresh;
-    report(screen, &mut fresh, 10, text, Fault { kind, mark }).is_ok() && fresh
+    report_fault(screen, &mut fresh, 10, text, Fault { kind, mark }).is_ok() && fresh
 }
 
 // What the report is: its front, the text with the mark, and a newline.

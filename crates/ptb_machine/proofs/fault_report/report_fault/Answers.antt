@@ -1,8 +1,8 @@
--- This file answers what is left to prove of `report`: each piece is shown, or the report ends there.
+-- This file answers what is left to prove of `report_fault`: each piece is shown, or the report ends there.
 use Rattle.std.proofs.Common.{◌∙◌, refl}
 use Rattle.ptb_command.specs.Act.{newline}
 use Rattle.ptb_command.proofs.PublicLemmas.{shown_then, unshown_first, statement_line, report_shown, three_same}
-use Rattle.ptb_machine.proofs.fault_report.report.Goals as goal
+use Rattle.ptb_machine.proofs.fault_report.report_fault.Goals as goal
 
 pub returns-in_err-put_joined : goal.returns-in_err-put_joined
 returns-in_err-put_joined g c d cells =
