@@ -78,7 +78,7 @@ pub(crate) fn plan_next(
                     answer: answer + 1,
                     bound,
                 };
-                chooser.restart(&asked[..i + 1], i, raised)?;
+                chooser.replace_plan(&asked[..i + 1], i, raised)?;
                 Ok(Some(i))
             }
         },

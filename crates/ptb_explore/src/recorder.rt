@@ -60,7 +60,7 @@ impl Recorder {
     /// # Errors
     ///
     /// Where the plan is refused memory; nothing is changed then.
-    pub(crate) fn restart(
+    pub(crate) fn replace_plan(
         &mut self,
         list: &[Asked],
         last: usize,

@@ -33,8 +33,8 @@ front_twice : (asked : List Asked) (i : ℕ) (r : Asked)
     → take i (take (i + 1) asked) ++ r ∷ [] ≡ take i asked ++ r ∷ []
 front_twice asked i r = ap (λ (l : List Asked). l ++ r ∷ []) (take_twice i (i + 1) asked (omega arith))
 
-pub returns-in_ok-restart-in-Some-clause-plan : goal.returns-in_ok-restart-in-Some-clause-plan
-returns-in_ok-restart-in-Some-clause-plan c =
+pub returns-in_ok-replace_plan-in-Some-clause-plan : goal.returns-in_ok-replace_plan-in-Some-clause-plan
+returns-in_ok-replace_plan-in-Some-clause-plan c =
     let asked = c.args.asked.now in
     let i = c.in-Some.i in
     let place = subst (λ n. IsLastBelow n (answers_in asked) (bounds_in asked) i)
@@ -47,16 +47,17 @@ returns-in_ok-restart-in-Some-clause-plan c =
     let room = c.in-Some.ensures.room in
     let raised : to_z w16 (of_z w16 (to_z w16 (of_z w16 answer) +ℤ pos 1)) ≡ answer +ℤ pos 1 =
     omega (arith, ints, room, there) in
-    let plan = ap answers_in (c.in_ok-restart-in-Some.ensures.asked ∙ front_twice asked i _) ∙ front_answers asked i _
+    let plan = ap answers_in (c.in_ok-replace_plan-in-Some.ensures.asked ∙ front_twice asked i _)
+        ∙ front_answers asked i _
     ∙ ap (λ k. take i (answers_in asked) ++ k ∷ []) (raised ∙ ap (λ (k : ℤ). k +ℤ pos 1) (sym there)) in
     rw c.in-AtRun.is (place, plan)
 
-pub returns-in_ok-restart-in-Some-clause-bounds : goal.returns-in_ok-restart-in-Some-clause-bounds
-returns-in_ok-restart-in-Some-clause-bounds c =
+pub returns-in_ok-replace_plan-in-Some-clause-bounds : goal.returns-in_ok-replace_plan-in-Some-clause-bounds
+returns-in_ok-replace_plan-in-Some-clause-bounds c =
     let asked = c.args.asked.now in
     let i = c.in-Some.i in
     let within : i ≤ length asked = omega (arith, c.in-Some.ensures.place.within, length-answers_in asked) in
-    ap (λ (l : List Asked). take i (bounds_in l)) (c.in_ok-restart-in-Some.ensures.asked ∙ front_twice asked i _)
+    ap (λ (l : List Asked). take i (bounds_in l)) (c.in_ok-replace_plan-in-Some.ensures.asked ∙ front_twice asked i _)
     ∙ front_bounds asked i _ within
 
 pub returns-in-None-clause-plan : goal.returns-in-None-clause-plan
@@ -76,8 +77,8 @@ returns-in_err-replay-in-AtStart-clause-refused c =
     (bounds_in c.args.asked.now) = rw c.in-AtStart.is (answers_of c.args.under.now, 0, (refl, refl)) in
     on_err_always _ has
 
-pub returns-in_err-restart-in-Some-clause-refused : goal.returns-in_err-restart-in-Some-clause-refused
-returns-in_err-restart-in-Some-clause-refused c =
+pub returns-in_err-replace_plan-in-Some-clause-refused : goal.returns-in_err-replace_plan-in-Some-clause-refused
+returns-in_err-replace_plan-in-Some-clause-refused c =
     let answers = answers_in c.args.asked.now in
     let bounds = bounds_in c.args.asked.now in
     let i = c.in-Some.i in

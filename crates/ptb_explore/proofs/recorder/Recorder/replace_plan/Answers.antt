@@ -4,7 +4,7 @@ use Rattle.std.specs.Prelude.{slice_set}
 use Rattle.std.proofs.lemmas.Grind.{take-set_at}
 use Rattle.std.proofs.lemmas.List.{length-set}
 use Rattle.ptb_answers.specs.declared.asked.Asked.{Asked}
-use Rattle.ptb_explore.proofs.recorder.Recorder.restart.Goals as goal
+use Rattle.ptb_explore.proofs.recorder.Recorder.replace_plan.Goals as goal
 
 pub returns-clause-asked : goal.returns-clause-asked
 returns-clause-asked c =
