@@ -1,4 +1,4 @@
--- This file proves the results of a play that continues from the place of another one.
+-- This file proves the results of a play that continues from the state of another one.
 -- Main lemmas: `gone_on` and `gone_over`.
 use Rattle.std.proofs.Common.{◌≡◌, ℕ, zero, suc, List, [], ◌++◌, take, length, refl, sym, ap, subst}
 use Rattle.std.proofs.Common.{◌∙◌, true, append-nil}

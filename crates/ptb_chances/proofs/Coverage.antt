@@ -165,7 +165,7 @@ module _ (p : StoredProgram) (input : List (List ℕ)) (rules : Rules) (most : �
       subst (λ (ws : List Standing). Covers p input rules most done ws) (sym t.old_is)
       (into t.front t.back w qs done s there)
 
-  -- ---- plays at one place
+  -- ---- plays in one state
 
   module _ (v u : Standing) (same : SamePlace v u) where
     waits_too : (q : Answers) → Waits p input rules v q → Waits p input rules u q

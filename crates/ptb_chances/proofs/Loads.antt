@@ -72,7 +72,7 @@ module _ (limit most : ℕ) where
       omega arith in
       omega (arith, fewer, split)
 
-  -- plays continued, to another place
+  -- plays continued, to another state
   pub load_gone : (old new : List Standing) (w v : Standing) → Puts old v new
       → limit - v.machine.steps < limit - w.machine.steps → load limit most new < load limit most (w ∷ old)
   load_gone old new w v puts less =

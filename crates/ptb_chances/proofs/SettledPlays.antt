@@ -1,4 +1,4 @@
--- This file proves what becomes of plays at one place: they are over, they continue, or they ask.
+-- This file proves what becomes of plays in one state: they are over, they continue, or they ask.
 -- Main lemmas: `settled_over`, `settled_gone` and `settled_asked`.
 use Rattle.std.proofs.Common.{◌≡◌, ℕ, zero, suc, ◌+◌, ◌*◌, ◌<◌, ◌≤◌, Bool, true, false, cond, List}
 use Rattle.std.proofs.Common.{[], ◌∷◌, ◌++◌, map, length, take, drop, refl, ap, sym, subst, ◌∙◌}

@@ -8,7 +8,7 @@ use Rattle.std.specs.Ordering.{is_eq, match_ordering, nat_cmp}
 use Rattle.std.specs.declared.cmp.Ordering.{Ordering}
 use Rattle.std.specs.declared.cmp.Ordering.TheVariants.{Less, Equal, Greater}
 use Rattle.ptb_numbers.specs.Fractions.{Equals, plus}
-use Rattle.ptb_chances.specs.declared.worklist.SavedPlace.{SavedPlace}
+use Rattle.ptb_chances.specs.declared.worklist.SavedState.{SavedState}
 use Rattle.ptb_chances.specs.declared.worklist.Waiting.{Waiting}
 use Rattle.ptb_chances.specs.WaitingPlays.{IsJoined, Puts, Standing, Takes, unplanned, in_map}
 
@@ -106,7 +106,7 @@ module _ (plans : List Standing) (others : List Waiting) (es : List (ℕ × Wait
       (subst (λ (fs : List (ℕ × Waiting)). Takes (map in_map fs) (unplanned w) (map in_map es)) (sym is)
       (inserted nat_cmp key w es none))))
 
-  -- others wait there, at another place
+  -- others wait there, in another state
   pub put_aside : (v : Waiting) (others' : List Waiting) (es' : List (ℕ × Waiting))
       → lookup (is_at (nat_cmp key)) es ≡ Some v → es' ≡ set_value (is_at (nat_cmp key)) es v
       → others' ≡ others ++ w ∷ []
@@ -120,7 +120,7 @@ module _ (plans : List Standing) (others : List Waiting) (es : List (ℕ × Wait
       (subst (λ (fs : List (ℕ × Waiting)). Takes (map unplanned others' ++ map in_map fs) (unplanned w)
       (map unplanned others ++ map in_map es)) (sym same) one))
 
-  -- others wait there, at the same place
+  -- others wait there, in the same state
   pub put_with : (v u : Waiting) (es' : List (ℕ × Waiting)) → lookup (is_at (nat_cmp key)) es ≡ Some v
       → es' ≡ set_value (is_at (nat_cmp key)) es u → IsJoined (unplanned v) (unplanned w) (unplanned u)
       → Puts old_work (unplanned w) (new_work others es')
@@ -142,24 +142,24 @@ module _ (plans : List Standing) (others : List Waiting) (es : List (ℕ × Wait
         joined = joined;
       })
 
--- plays at the same place are joined
-pub joined_there : (v w u : Waiting) → v.place.machine ≡ w.place.machine → v.place.taken ≡ w.place.taken
-    → v.place.shown.items ≡ w.place.shown.items
-    → u.place ≡ v.place → Equals u.chance (plus v.chance w.chance) → 0 < u.chance.denominator → u.runs ≡ v.runs + w.runs
+-- plays in the same state are joined
+pub joined_there : (v w u : Waiting) → v.state.machine ≡ w.state.machine → v.state.taken ≡ w.state.taken
+    → v.state.shown.items ≡ w.state.shown.items
+    → u.state ≡ v.state → Equals u.chance (plus v.chance w.chance) → 0 < u.chance.denominator → u.runs ≡ v.runs + w.runs
     → IsJoined (unplanned v) (unplanned w) (unplanned u)
-joined_there v w u machine taken shown place chance positive runs =
-    let there : v.place ≡ u.place = sym place in
+joined_there v w u machine taken shown state chance positive runs =
+    let there : v.state ≡ u.state = sym state in
     record {
       first = record {
-        machine = ap (λ (x : SavedPlace). x.machine) there;
-        taken = ap (λ (x : SavedPlace). x.taken) there;
-        shown = ap (λ (x : SavedPlace). x.shown.items) there;
+        machine = ap (λ (x : SavedState). x.machine) there;
+        taken = ap (λ (x : SavedState). x.taken) there;
+        shown = ap (λ (x : SavedState). x.shown.items) there;
         plan = refl;
       };
       second = record {
-        machine = sym machine ∙ ap (λ (x : SavedPlace). x.machine) there;
-        taken = sym taken ∙ ap (λ (x : SavedPlace). x.taken) there;
-        shown = sym shown ∙ ap (λ (x : SavedPlace). x.shown.items) there;
+        machine = sym machine ∙ ap (λ (x : SavedState). x.machine) there;
+        taken = sym taken ∙ ap (λ (x : SavedState). x.taken) there;
+        shown = sym shown ∙ ap (λ (x : SavedState). x.shown.items) there;
         plan = refl;
       };
       chance = chance;

@@ -23,7 +23,7 @@ pub use Rattle.ptb_chances.specs.CountedRuns.{IsTallied, load_left}
 pub use Rattle.ptb_chances.specs.Keys.{key_result, result_text, row_of_share, share_text}
 pub use Rattle.ptb_chances.specs.Order.{result_order_total}
 pub use Rattle.ptb_chances.specs.TableLaws.{TableLaws}
-pub use Rattle.ptb_chances.specs.StagePlays.{CanPlay, PlaysTo, SameEnd, IsStageAt, IsStageAtPlace}
+pub use Rattle.ptb_chances.specs.StagePlays.{CanPlay, PlaysTo, SameEnd, IsStageAt, IsStageAtSaved}
 pub use Rattle.ptb_chances.specs.WaitingPlays.{planned, standings, after_answer, first_standing, gone_to, Puts}
 pub use Rattle.ptb_chances.specs.WaitingPlays.{PutsAnswers}
 pub use Rattle.ptb_chances.specs.WaitingPlays.{states_left, Takes, unplanned}

@@ -3,8 +3,8 @@
 --     SameEnd s t                      whatever is shown next, the last line is the same after s and after t
 --     IsStageAt p rules m left shown S      a machine represents the state S; these lines are left, and this was shown
 --                                          last
---     IsStageAtPlace stage place S      the same of the machine of a place
---     CanPlay stage place plan         a plan that is open can be played on from a place
+--     IsStageAtSaved stage state S      the same of the machine of a saved state
+--     CanPlay stage state plan         a plan that is open can be played on from a saved state
 --     Came p rules S a m left shown    with the answers a, a run has come from the state S to where a machine is
 --     IsOver p rules S a ending shown  with these answers it is over
 --     IsAsked p rules S a n            with these answers it asks a question with bound n
@@ -26,7 +26,7 @@ use Rattle.ptb_machine.specs.Play.{run_from}
 use Rattle.ptb_chances.specs.declared.plays.Played.{Played}
 use Rattle.ptb_chances.specs.declared.plays.Played.TheVariants as played
 use Rattle.ptb_chances.specs.declared.stage.Stage.{Stage}
-use Rattle.ptb_chances.specs.declared.worklist.SavedPlace.{SavedPlace}
+use Rattle.ptb_chances.specs.declared.worklist.SavedState.{SavedState}
 
 abbrev pub SameEnd : List ℕ → List ℕ → Type 0
 SameEnd s t = (more : List ℕ) → last_line (lines (s ++ more)) ≡ last_line (lines (t ++ more))
@@ -39,14 +39,14 @@ pub record IsStageAt (p : StoredProgram) (rules : Rules) (m : Configuration) (le
   pub choose : S.choose ≡ rules.choose
   pub same_end : SameEnd S.shown shown
 
-abbrev pub IsStageAtPlace : Stage → SavedPlace → State → Type 0
-IsStageAtPlace s place S = IsStageAt s.player s.rules place.machine (drop place.taken s.devices.source.lines)
-    place.shown.items S
+abbrev pub IsStageAtSaved : Stage → SavedState → State → Type 0
+IsStageAtSaved s state S = IsStageAt s.player s.rules state.machine (drop state.taken s.devices.source.lines)
+    state.shown.items S
 
-pub record CanPlay (s : Stage) (place : SavedPlace) (plan : Answers) : Type 0 where
-  pub unspent : place.machine.spent ≡ false
-  pub within : place.taken ≤ length s.devices.source.lines
-  pub opens : (S : State) × IsStageAtPlace s place S × (is_open (run_from s.player s.rules S plan) ≡ true)
+pub record CanPlay (s : Stage) (state : SavedState) (plan : Answers) : Type 0 where
+  pub unspent : state.machine.spent ≡ false
+  pub within : state.taken ≤ length s.devices.source.lines
+  pub opens : (S : State) × IsStageAtSaved s state S × (is_open (run_from s.player s.rules S plan) ≡ true)
 
 pub record Came (p : StoredProgram) (rules : Rules) (S : State) (answers : Answers) (m : Configuration)
     (left : List (List ℕ)) (shown : List ℕ) : Type 0 where

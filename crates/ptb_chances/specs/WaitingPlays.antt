@@ -9,7 +9,7 @@
 --     below play most qs             the runs that begin with one of some lists of answers
 --     Accounted ..                   with what waits, the tally is the account of all runs
 --     Takes old w new                one of them was taken out
---     Puts old w new                 one was put in: by itself, or together with one at the same place
+--     Puts old w new                 one was put in: by itself, or together with one in the same state
 --     after_answer w n k             the same plays after the answer k to a question with bound n
 --     load limit most ws             more than is left to be done
 use Rattle.std.specs.Prelude.{◌≡◌, ◌⊎◌, ◌<◌, ◌≤◌, ℕ, zero, suc, ◌+◌, ◌-◌, ◌*◌, List, [], ◌∷◌, ◌++◌}
@@ -25,7 +25,7 @@ use Rattle.ptb_machine.specs.Play.{play}
 use Rattle.ptb_chances.specs.Chances.{Row, answer_count, bound_product, chance_of_all}
 use Rattle.ptb_machine.specs.Play.{run_from}
 use Rattle.ptb_machine.specs.RunTree.{leaves, tree}
-use Rattle.ptb_chances.specs.declared.worklist.SavedPlace.{SavedPlace}
+use Rattle.ptb_chances.specs.declared.worklist.SavedState.{SavedState}
 use Rattle.ptb_chances.specs.declared.worklist.Plan.{Plan}
 use Rattle.ptb_chances.specs.declared.worklist.Waiting.{Waiting}
 use Rattle.ptb_chances.specs.declared.worklist.Worklist.{Worklist}
@@ -44,11 +44,11 @@ pub record Standing : Type 0 where
 
 -- ---- what the code holds
 
-abbrev pub planned : SavedPlace → Plan → Standing
-planned place plan = record {
-  machine = place.machine;
-  taken = place.taken;
-  shown = place.shown.items;
+abbrev pub planned : SavedState → Plan → Standing
+planned state plan = record {
+  machine = state.machine;
+  taken = state.taken;
+  shown = state.shown.items;
   plan = plan.answers.items;
   chance = plan.chance;
   runs = plan.runs;
@@ -56,9 +56,9 @@ planned place plan = record {
 
 abbrev pub unplanned : Waiting → Standing
 unplanned w = record {
-  machine = w.place.machine;
-  taken = w.place.taken;
-  shown = w.place.shown.items;
+  machine = w.state.machine;
+  taken = w.state.taken;
+  shown = w.state.shown.items;
   plan = [];
   chance = w.chance;
   runs = w.runs;
@@ -71,7 +71,7 @@ abbrev pub states_left : Worklist → List Standing
 states_left w = map unplanned w.others.items ++ map in_map w.states.entries
 
 abbrev pub standings : Worklist → List Standing
-standings w = map (planned w.place) w.plans.items ++ states_left w
+standings w = map (planned w.state) w.plans.items ++ states_left w
 
 -- at the beginning of all runs
 abbrev pub first_standing : Configuration → Standing

@@ -1,4 +1,4 @@
-// This file adds up the chances of all runs of a program. Plays that come to the same place are
+// This file adds up the chances of all runs of a program. Plays that come to the same state are
 // continued together.
 
 ghost use Rattle.std.specs.Prelude.{◌≡◌, ◌<◌, [], ◌∷◌, IfOk, OnOk};
@@ -11,7 +11,7 @@ use crate::result_key::ResultKey;
 use crate::stage::Stage;
 use crate::tally::Tally;
 use crate::watch::Watch;
-use crate::worklist::{Plan, SavedPlace, Worklist};
+use crate::worklist::{Plan, SavedState, Worklist};
 use ptb_machine::{Ending, Line, Lines, Player, Rules, TextScreen, run_laws};
 use ptb_text::Program;
 use std::alloc::{AllocError, Global};
@@ -76,7 +76,7 @@ impl<'p, 'l> Count<'p, 'l> {
                 rules,
                 machine,
                 devices,
-                before: SavedPlace::new(alloc),
+                before: SavedState::new(alloc),
             },
             work,
             tally: Tally::new(alloc),
@@ -86,7 +86,7 @@ impl<'p, 'l> Count<'p, 'l> {
     // Plays a plan that was taken out of the work. Plays that are over are counted; others are put back.
     fn settle(&mut self, alloc: Global, plan: Plan) -> Result<(), AllocError>
         requires { IsTallied self.old.stage self.old.tally
-            (planned self.old.work.place plan ∷ standings self.old.work) }
+            (planned self.old.work.state plan ∷ standings self.old.work) }
         ensures player { self.new.stage.player ≡ self.old.stage.player }
         ensures rules { self.new.stage.rules ≡ self.old.stage.rules }
         ensures lines { self.new.stage.devices.source.lines
@@ -95,10 +95,10 @@ impl<'p, 'l> Count<'p, 'l> {
             (standings self.new.work)) }
         ensures less { OnOk result (load_left self.old.stage (standings self.new.work)
             < load_left self.old.stage
-            (planned self.old.work.place plan ∷ standings self.old.work)) }
+            (planned self.old.work.state plan ∷ standings self.old.work)) }
     {
         run_laws();
-        let played = self.stage.play(alloc, &self.work.place, &plan)?;
+        let played = self.stage.play(alloc, &self.work.state, &plan)?;
         match played {
             Played::Over(ending) => {
                 let shown = self.stage.devices.screen.bytes();
@@ -106,8 +106,8 @@ impl<'p, 'l> Count<'p, 'l> {
             }
             Played::Asks(bound) => self.work.add_plans(alloc, &plan, bound),
             Played::Goes => {
-                let place = std::mem::replace(&mut self.stage.before, SavedPlace::new(alloc));
-                self.work.add(alloc, plan.at(place))
+                let state = std::mem::replace(&mut self.stage.before, SavedState::new(alloc));
+                self.work.add(alloc, plan.at(state))
             }
         }
     }

@@ -1,12 +1,12 @@
-// This file plays plans from their places.
+// This file plays plans from their states.
 
 ghost use Rattle.std.specs.Prelude.{◌≡◌, ◌+◌, ◌-◌, ◌<◌, ◌≤◌, ℕ, [], None, false, true, drop, take, length, IfOk, OnOk};
 ghost use Rattle.ptb_chances.specs.Prelude.{is_open, State, run_from, ComesTo, GoesOn, CanPlay, PlaysTo, SameEnd};
-ghost use Rattle.ptb_chances.specs.Prelude.{IsStageAt, IsStageAtPlace, FitsProgram, PlainTurns};
+ghost use Rattle.ptb_chances.specs.Prelude.{IsStageAt, IsStageAtSaved, FitsProgram, PlainTurns};
 
 use crate::last_line::last_lines;
 use crate::plays::{PlayDevices, Played, play_plan};
-use crate::worklist::{Plan, SavedPlace};
+use crate::worklist::{Plan, SavedState};
 use ptb_machine::{Ending, Machine, Player, Rules, TextScreen, run_laws};
 use std::alloc::{AllocError, Global};
 
@@ -15,40 +15,40 @@ use std::alloc::{AllocError, Global};
 pub(crate) struct Stage<'p, 'l> {
     pub(crate) player: Player<'p>,
     pub(crate) rules: Rules,
-    /// It plays each plan, from where the machine of its place was.
+    /// It plays each plan, from where the machine of its state was.
     pub(crate) machine: Machine,
     pub(crate) devices: PlayDevices<'l>,
     /// Where the run was before the command that asks next.
-    pub(crate) before: SavedPlace,
+    pub(crate) before: SavedState,
 }
 
 impl<'p, 'l> Stage<'p, 'l> {
-    // Plays a plan from its place, up to the end of the command that takes its last answer.
+    // Plays a plan from its state, up to the end of the command that takes its last answer.
     fn start(
         &mut self,
         alloc: Global,
-        place: &SavedPlace,
+        state: &SavedState,
         plan: &Plan,
     ) -> Result<Played, AllocError>
-        requires { CanPlay self.old place.now plan.now.answers.items }
+        requires { CanPlay self.old state.now plan.now.answers.items }
         ensures player { self.new.player ≡ self.old.player }
         ensures rules { self.new.rules ≡ self.old.rules }
         ensures same_lines { self.new.devices.source.lines ≡ self.old.devices.source.lines }
         ensures plays { IfOk result (λ played. (given : ℕ) × ((S : State) →
-            IsStageAtPlace self.old place.now S → PlaysTo self.old.player self.old.rules S
+            IsStageAtSaved self.old state.now S → PlaysTo self.old.player self.old.rules S
             (take given plan.now.answers.items) plan.now.answers.items self.new.machine
             (drop self.new.devices.source.taken self.old.devices.source.lines)
             self.new.devices.screen played)) }
         ensures goes { IfOk result (λ played. played ≡ Played.Goes →
             (self.new.machine.spent ≡ false)
             × (self.old.rules.limit - self.new.machine.steps
-            < self.old.rules.limit - place.now.machine.steps)) }
+            < self.old.rules.limit - state.now.machine.steps)) }
         ensures within { IfOk result (λ _.
             self.new.devices.source.taken ≤ length self.old.devices.source.lines) }
     {
-        self.machine.restore(alloc, &place.machine)?;
-        self.devices.screen = TextScreen::from_vec(Vec::from_slice(alloc, &place.shown)?);
-        self.devices.source.go(place.taken);
+        self.machine.restore(alloc, &state.machine)?;
+        self.devices.screen = TextScreen::from_vec(Vec::from_slice(alloc, &state.shown)?);
+        self.devices.source.go(state.taken);
         play_plan(
             &self.player,
             self.rules,
@@ -119,7 +119,7 @@ impl<'p, 'l> Stage<'p, 'l> {
         }
     }
 
-    /// Plays a plan from its place: up to the end of the run, to a question of the command that took the
+    /// Plays a plan from its state: up to the end of the run, to a question of the command that took the
     /// last answer, or up to the next command that asks.
     ///
     /// # Errors
@@ -128,25 +128,25 @@ impl<'p, 'l> Stage<'p, 'l> {
     pub(crate) fn play(
         &mut self,
         alloc: Global,
-        place: &SavedPlace,
+        state: &SavedState,
         plan: &Plan,
     ) -> Result<Played, AllocError>
-        requires { CanPlay self.old place.now plan.now.answers.items }
+        requires { CanPlay self.old state.now plan.now.answers.items }
         ensures player { self.new.player ≡ self.old.player }
         ensures rules { self.new.rules ≡ self.old.rules }
         ensures same_lines { self.new.devices.source.lines ≡ self.old.devices.source.lines }
         ensures plays { IfOk result (λ played. (given : ℕ) × ((S : State) →
-            IsStageAtPlace self.old place.now S → ComesTo self.old.player self.old.rules S given
+            IsStageAtSaved self.old state.now S → ComesTo self.old.player self.old.rules S given
             plan.now.answers.items self.new.before self.old.devices.source.lines
             self.new.devices.screen played)) }
         ensures goes { IfOk result (λ played. played ≡ Played.Goes →
             (self.new.before.machine.spent ≡ false)
             × (self.old.rules.limit - self.new.before.machine.steps
-            < self.old.rules.limit - place.now.machine.steps)
+            < self.old.rules.limit - state.now.machine.steps)
             × (self.new.before.taken ≤ length self.old.devices.source.lines)) }
     {
         run_laws();
-        let played = self.start(alloc, place, plan)?;
+        let played = self.start(alloc, state, plan)?;
         match played {
             Played::Over(ending) => return Ok(Played::Over(ending)),
             Played::Asks(bound) => return Ok(Played::Asks(bound)),

@@ -14,7 +14,7 @@ use std::collections::BTreeMap;
 
 /// Where plays are: a machine, how many lines were taken, and the end of what was shown.
 #[derive(Drop)]
-pub(crate) struct SavedPlace {
+pub(crate) struct SavedState {
     pub(crate) machine: SavedMachine,
     pub(crate) taken: usize,
     pub(crate) shown: Vec<u8>,
@@ -28,10 +28,10 @@ pub(crate) struct Plan {
     pub(crate) runs: Natural,
 }
 
-/// Plays at one place, with their chance and their number.
+/// Plays in one state, with their chance and their number.
 #[derive(Drop)]
 pub(crate) struct Waiting {
-    pub(crate) place: SavedPlace,
+    pub(crate) state: SavedState,
     pub(crate) chance: Fraction,
     pub(crate) runs: Natural,
 }
@@ -40,18 +40,18 @@ pub(crate) struct Waiting {
 #[derive(Drop)]
 pub(crate) struct Worklist {
     /// Where the plays of the plans are.
-    pub(crate) place: SavedPlace,
+    pub(crate) state: SavedState,
     pub(crate) plans: Vec<Plan>,
-    /// Plays that have no plan, by the keys of their places.
+    /// Plays that have no plan, by the keys of their states.
     pub(crate) states: BTreeMap<u64, Waiting>,
-    /// Those whose key another place has.
+    /// Those whose key another state has.
     pub(crate) others: Vec<Waiting>,
 }
 
-impl SavedPlace {
-    /// A place where no play is.
-    pub(crate) fn new(alloc: Global) -> SavedPlace {
-        SavedPlace {
+impl SavedState {
+    /// A state in which no play is.
+    pub(crate) fn new(alloc: Global) -> SavedState {
+        SavedState {
             machine: SavedMachine::new(alloc),
             taken: 0,
             shown: Vec::new(alloc),
@@ -63,22 +63,22 @@ impl SavedPlace {
     /// # Errors
     ///
     /// Where there is no memory for it.
-    pub(crate) fn first(alloc: Global, player: &Player) -> Result<SavedPlace, AllocError>
-        ensures machine { IfOk result (λ place. IsAtFirst player.now place.machine) }
-        ensures taken { IfOk result (λ place. place.taken ≡ 0) }
-        ensures shown { IfOk result (λ place. place.shown.items ≡ []) }
+    pub(crate) fn first(alloc: Global, player: &Player) -> Result<SavedState, AllocError>
+        ensures machine { IfOk result (λ state. IsAtFirst player.now state.machine) }
+        ensures taken { IfOk result (λ state. state.taken ≡ 0) }
+        ensures shown { IfOk result (λ state. state.shown.items ≡ []) }
     {
         let machine = player.machine(alloc)?;
         let mut saved = SavedMachine::new(alloc);
         saved.save(&machine)?;
-        Ok(SavedPlace {
+        Ok(SavedState {
             machine: saved,
             taken: 0,
             shown: Vec::new(alloc),
         })
     }
 
-    // A number that the same places have. It rises with the steps.
+    // A number that the same states have. It rises with the steps.
     fn key(&self) -> u64 {
         let mut sum = self.machine.hash();
         for byte in &self.shown {
@@ -94,8 +94,8 @@ impl SavedPlace {
             .wrapping_add(sum / 0x1_0000_0000)
     }
 
-    // Whether another place is the same.
-    fn is_same(&self, other: &SavedPlace) -> bool
+    // Whether another state is the same.
+    fn is_same(&self, other: &SavedState) -> bool
         ensures { IsTrue result → (self.now.machine ≡ other.now.machine)
             × (self.now.taken ≡ other.now.taken) × (self.now.shown.items ≡ other.now.shown.items) }
     {
@@ -106,9 +106,9 @@ impl SavedPlace {
 }
 
 impl Waiting {
-    // Adds other plays, which are at the same place.
+    // Adds other plays, which are in the same state.
     fn join(&mut self, alloc: Global, other: &Waiting) -> Result<(), AllocError>
-        ensures place { OnOk result (self.new.place ≡ self.old.place) }
+        ensures state { OnOk result (self.new.state ≡ self.old.state) }
         ensures chance { OnOk result (Equals self.new.chance
             (plus self.old.chance other.now.chance)) }
         ensures positive { OnOk result (0 < self.new.chance.denominator) }
@@ -132,14 +132,14 @@ impl Plan {
         })
     }
 
-    /// The same plays, which are at a place after their last answer.
-    pub(crate) fn at(self, place: SavedPlace) -> Waiting
-        ensures { unplanned result ≡ gone_to place.machine place.taken place.shown.items
+    /// The same plays, which are in a state after their last answer.
+    pub(crate) fn at(self, state: SavedState) -> Waiting
+        ensures { unplanned result ≡ gone_to state.machine state.taken state.shown.items
             self.chance self.runs }
     {
         let Plan { chance, runs, .. } = self;
         Waiting {
-            place,
+            state,
             chance,
             runs,
         }
@@ -148,8 +148,8 @@ impl Plan {
     // The same plays after an answer more, to a question with this bound.
     fn answered(&self, alloc: Global, answer: i16, bound: i16) -> Result<Plan, AllocError>
         requires { pos 1 ≤ℤ bound }
-        ensures { (place : SavedPlace) → IfOk result (λ plan.
-            planned place plan ≡ after_answer (planned place self.now) bound answer) }
+        ensures { (state : SavedState) → IfOk result (λ plan.
+            planned state plan ≡ after_answer (planned state self.now) bound answer) }
     {
         let mut answers = Vec::from_slice(alloc, &self.answers)?;
         answers.push(answer)?;
@@ -176,29 +176,29 @@ impl Worklist {
         let mut plans = Vec::new(alloc);
         plans.push(Plan::first(alloc)?)?;
         Ok(Worklist {
-            place: SavedPlace::first(alloc, player)?,
+            state: SavedState::first(alloc, player)?,
             plans,
             states: BTreeMap::new(alloc),
             others: Vec::new(alloc),
         })
     }
 
-    /// Takes out plays that have the fewest commands done, of those at one place, and goes
-    /// to this place.
+    /// Takes out plays that have the fewest commands done, of those in one state, and goes
+    /// to this state.
     pub(crate) fn next(&mut self, alloc: Global) -> Option<Plan>
         ensures none { IfNone result (standings self.old ≡ []) }
         ensures some { IfSome result (λ plan. Takes (standings self.old)
-            (planned self.new.place plan) (standings self.new)) }
+            (planned self.new.state plan) (standings self.new)) }
     {
         if let Some(plan) = self.plans.pop() {
             return Some(plan);
         }
         let Waiting {
-            place,
+            state,
             chance,
             runs,
         } = self.next_state()?;
-        self.place = place;
+        self.state = state;
         Some(Plan {
             answers: Vec::new(alloc),
             chance,
@@ -230,8 +230,8 @@ impl Worklist {
     ) -> Result<(), AllocError>
         requires { pos 1 ≤ℤ bound }
         ensures added { OnOk result (Takes (standings self.new)
-            (after_answer (planned self.old.place plan.now) bound answer) (standings self.old)) }
-        ensures place { self.new.place ≡ self.old.place }
+            (after_answer (planned self.old.state plan.now) bound answer) (standings self.old)) }
+        ensures state { self.new.state ≡ self.old.state }
     {
         let answered = plan.answered(alloc, answer, bound)?;
         self.plans.push(answered)?;
@@ -250,7 +250,7 @@ impl Worklist {
         bound: i16,
     ) -> Result<(), AllocError>
         requires { pos 1 ≤ℤ bound }
-        ensures { OnOk result (PutsAnswers (planned self.old.place plan.now) bound
+        ensures { OnOk result (PutsAnswers (planned self.old.state plan.now) bound
             (unsigned_abs bound) (standings self.old) (standings self.new)) }
     {
         let mut answer = 0;
@@ -266,7 +266,7 @@ impl Worklist {
         self.states.len().saturating_add(self.others.len())
     }
 
-    /// Puts in plays at one place: together with those at the same place, where these are found.
+    /// Puts in plays in one state: together with those in the same state, where these are found.
     ///
     /// # Errors
     ///
@@ -274,12 +274,12 @@ impl Worklist {
     pub(crate) fn add(&mut self, alloc: Global, waiting: Waiting) -> Result<(), AllocError>
         ensures { OnOk result (Puts (standings self.old) (unplanned waiting) (standings self.new)) }
     {
-        let key = waiting.place.key();
+        let key = waiting.state.key();
         let Some(other) = self.states.get_mut(&key) else {
             self.states.insert(key, waiting)?;
             return Ok(());
         };
-        if other.place.is_same(&waiting.place) {
+        if other.state.is_same(&waiting.state) {
             return other.join(alloc, &waiting);
         }
         self.others.push(waiting)?;

@@ -34,7 +34,7 @@ pub returns-in-Over-clause-less : goal.returns-in-Over-clause-less
 returns-in-Over-clause-less c =
     let s = c.args.self.now in
     on_ok c.add_over.result c.add_over.ensures (λ _. load_some s.stage.rules.limit
-    (most_answers s.stage.player s.stage.devices.source.lines s.stage.rules.limit) (planned s.work.place c.args.plan)
+    (most_answers s.stage.player s.stage.devices.source.lines s.stage.rules.limit) (planned s.work.state c.args.plan)
     (standings s.work))
 
 pub returns-in-Asks-clause-counted : goal.returns-in-Asks-clause-counted
@@ -62,7 +62,7 @@ returns-in-Goes-clause-counted c =
     let before = c.play.new.self.before in
     let put : Puts (standings c.args.self.now.work) (gone_to before.machine before.taken before.shown.items
     c.args.plan.chance c.args.plan.runs) (standings c.add.new.self) =
-    rw (c.at.ensures, c.replace-place.ensures.value) at there in
+    rw (c.at.ensures, c.replace-state.ensures.value) at there in
     settled_gone _ _ _ _ _ _ _ c.requires _ _ _ _ plays goes.0 goes.2 put)
 
 pub returns-in-Goes-clause-less : goal.returns-in-Goes-clause-less
@@ -72,6 +72,6 @@ returns-in-Goes-clause-less c =
     on_ok c.add.result c.add.ensures (λ there.
     let before = c.play.new.self.before in
     let put : Puts (standings s.work) (gone_to before.machine before.taken before.shown.items c.args.plan.chance
-    c.args.plan.runs) (standings c.add.new.self) = rw (c.at.ensures, c.replace-place.ensures.value) at there in
+    c.args.plan.runs) (standings c.add.new.self) = rw (c.at.ensures, c.replace-state.ensures.value) at there in
     load_gone s.stage.rules.limit (most_answers s.stage.player s.stage.devices.source.lines s.stage.rules.limit)
-    (standings s.work) _ (planned s.work.place c.args.plan) _ put goes.1)
+    (standings s.work) _ (planned s.work.state c.args.plan) _ put goes.1)

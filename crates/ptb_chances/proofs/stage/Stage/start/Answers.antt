@@ -1,4 +1,4 @@
--- This file answers that a plan is played from its place.
+-- This file answers that a plan is played from its state.
 use Rattle.std.proofs.Common.{◌≡◌, rules, drop, refl}
 use Rattle.std.proofs.lemmas.Result.{IfOk-weaker}
 use Rattle.ptb_chances.proofs.PlaySteps.{stands_by}
@@ -6,11 +6,11 @@ use Rattle.ptb_chances.proofs.stage.Stage.start.Goals as goal
 
 pub returns-clause-plays : goal.returns-clause-plays
 returns-clause-plays c =
-    let machine : c.args.place.now.machine ≡ c.restore.new.self = search rules in
-    let taken : c.go.new.self.taken ≡ c.args.place.now.taken = search rules in
+    let machine : c.args.state.now.machine ≡ c.restore.new.self = search rules in
+    let taken : c.go.new.self.taken ≡ c.args.state.now.taken = search rules in
     let lines : c.go.new.self.lines ≡ c.args.self.now.devices.source.lines = search rules in
-    let shown : c.args.place.now.shown.items ≡ c.from_vec.result = search rules in
-    let left : drop c.args.place.now.taken c.args.self.now.devices.source.lines
+    let shown : c.args.state.now.shown.items ≡ c.from_vec.result = search rules in
+    let left : drop c.args.state.now.taken c.args.self.now.devices.source.lines
     ≡ drop c.go.new.self.taken c.go.new.self.lines = rw (taken, lines) refl in
     IfOk-weaker c.play_plan.result _ _
     (λ played plays. (

@@ -9,8 +9,8 @@ returns-clause-added c =
     let self = c.args.self.now in
     let bound : FitsSigned w16 c.args.bound = search rules in
     let answer : FitsSigned w16 c.args.answer = search rules in
-    let same = rw (to_z-of_z bound, to_z-of_z answer) at (c.in_ok-answered.ensures self.place) in
-    subst (λ (w : Standing). Takes (map (planned self.place) c.push.new.self.items ++ states_left self) w
+    let same = rw (to_z-of_z bound, to_z-of_z answer) at (c.in_ok-answered.ensures self.state) in
+    subst (λ (w : Standing). Takes (map (planned self.state) c.push.new.self.items ++ states_left self) w
     (standings self)) same
-    (takes_last (planned self.place) self.plans.items c.push.new.self.items c.in_ok-answered.answered
+    (takes_last (planned self.state) self.plans.items c.push.new.self.items c.in_ok-answered.answered
     (states_left self) c.in_ok-push.ensures.items)

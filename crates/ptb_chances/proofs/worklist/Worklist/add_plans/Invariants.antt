@@ -6,10 +6,10 @@ use Rattle.ptb_chances.proofs.worklist.Worklist.add_plans.Given as goal
 
 abbrev pub invariant-loop-answer : goal.invariant-loop-answer
 invariant-loop-answer l = record {
-  place : l.self.place ≡ l.fn.self.place;
+  state : l.self.state ≡ l.fn.self.state;
   low : pos 0 ≤ℤ l.answer;
   high : l.answer ≤ℤ l.bound;
-  puts : PutsAnswers (planned l.fn.self.place l.fn.plan) l.bound (unsigned_abs l.answer) (standings l.fn.self)
+  puts : PutsAnswers (planned l.fn.self.state l.fn.plan) l.bound (unsigned_abs l.answer) (standings l.fn.self)
       (standings l.self);
 }
 
