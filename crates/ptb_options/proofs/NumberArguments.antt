@@ -15,45 +15,45 @@ abbrev pub dashes : List ℕ
 dashes = codes "--"
 
 -- an argument that was skipped: it is not `--`, and gives no wrong value
-pub record IsPassed (words : List (List ℕ)) (place : ℕ) : Type 0 where
-  pub other : slice_get words place ≢ Some dashes
-  pub right : HasNoWrongValue (slice_get words place) (slice_get words (place + 1))
+pub record IsPassed (words : List (List ℕ)) (index : ℕ) : Type 0 where
+  pub other : slice_get words index ≢ Some dashes
+  pub right : HasNoWrongValue (slice_get words index) (slice_get words (index + 1))
 
 abbrev pub ArePassed : List (List ℕ) → ℕ → Type 0
 ArePassed words i = (j : ℕ) → j < i → 1 ≤ j → IsPassed words j
 
 -- no value of theirs is wrong
-pub none_before : (words : List (List ℕ)) (i : ℕ) → ArePassed words i → (place : ℕ) (w : WrongNumber) → place < i
-    → IsWrongAt words place w → ⊥
-none_before words i passed place w below wrong = (passed place below wrong.may_be.after_name).right w wrong.value
+pub none_before : (words : List (List ℕ)) (i : ℕ) → ArePassed words i → (index : ℕ) (w : WrongNumber) → index < i
+    → IsWrongAt words index w → ⊥
+none_before words i passed index w below wrong = (passed index below wrong.may_be.after_name).right w wrong.value
 
 -- where an argument is `--`, none after it gives one
 none_at_dashes : (words : List (List ℕ)) (i : ℕ) → ArePassed words i → 1 ≤ i → slice_get words i ≡ Some dashes
     → HasNoWrongNumber words
-none_at_dashes words i passed low here place w wrong =
-    let before : place < i → ⊥ = λ below. none_before words i passed place w below wrong in
+none_at_dashes words i passed low here index w wrong =
+    let before : index < i → ⊥ = λ below. none_before words i passed index w below wrong in
     wrong.may_be.before_dashes i low (not_below before) here
   where
-    not_below : (place < i → ⊥) → i ≤ place
+    not_below : (index < i → ⊥) → i ≤ index
     not_below h = omega arith
 
 -- an argument that is none gives none
-missing : (words : List (List ℕ)) (place : ℕ) (w : WrongNumber) → slice_get words place ≡ None
-    → IsWrongValue (slice_get words place) (slice_get words (place + 1)) w → ⊥
-missing words place w none wrong = elim wrong.given [
+missing : (words : List (List ℕ)) (index : ℕ) (w : WrongNumber) → slice_get words index ≡ None
+    → IsWrongValue (slice_get words index) (slice_get words (index + 1)) w → ⊥
+missing words index w none wrong = elim wrong.given [
   | inl e ↦ none-some _ (sym none ∙ e)
   | inr e ↦ none-some _ (sym none ∙ e.0)
 ]
 
 -- where all were skipped, there is none
 pub none_after : (words : List (List ℕ)) (i : ℕ) → ArePassed words i → length words ≤ i → HasNoWrongNumber words
-none_after words i passed all place w wrong = by_place (leb i place) refl where
-  by_place : (b : Bool) → leb i place ≡ b → ⊥
-  by_place true e = missing words place w (slice_get_past words place (let le = leb-true _ _ e in
+none_after words i passed all index w wrong = by_index (leb i index) refl where
+  by_index : (b : Bool) → leb i index ≡ b → ⊥
+  by_index true e = missing words index w (slice_get_past words index (let le = leb-true _ _ e in
       omega arith)) wrong.value
-  by_place false e = none_before words i passed place w (let below = leb-false _ _ e in omega arith) wrong
+  by_index false e = none_before words i passed index w (let below = leb-false _ _ e in omega arith) wrong
 
--- each place below their number has one
+-- each index below their number has one
 pub there_is : (words : List (List ℕ)) (i : ℕ) (found : Option (List ℕ)) → i < length words → found ≡ slice_get words i
     → found ≡ None → ⊥
 there_is words i found within at none = none-some _ (sym none ∙ at ∙ slice_get-get_or words i [] within)
@@ -67,7 +67,7 @@ pub some_found : {X : Type 0} (wrong : Option WrongNumber) (b : Bool) → b ≡ 
 some_found None b told is e = absurd (false≢true (sym told ∙ is))
 some_found (Some w) b told is e = absurd cc
 
--- an argument at a place
+-- an argument at an index
 module _ (words : List (List ℕ)) (i : ℕ) (word : List ℕ) (found : Option (List ℕ)) (same : Bool)
     (at : found ≡ slice_get words i) (is : found ≡ Some word) (told : same ≡ pointwise nat_eq word dashes)
     (passed : ArePassed words i) where
@@ -107,7 +107,7 @@ module _ (words : List (List ℕ)) (i : ℕ) (word : List ℕ) (found : Option (
         → IfSome wrong (IsWrongValue (Some word) next) → IfSome wrong (IsWrongNumber words)
     wrong_here None next low follows h = tt
     wrong_here (Some w) next low follows h = record {
-      place = i;
+      index = i;
       is = record {
         may_be = record { after_name = low; before_dashes = λ j one le. before_more j (omega (arith, le)) one };
         value =

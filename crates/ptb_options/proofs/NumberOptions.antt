@@ -12,7 +12,7 @@ use Rattle.ptb_options.specs.declared.command_line.ArgKind.{ArgKind}
 use Rattle.ptb_options.specs.declared.command_line.ArgKind.TheVariants as kinds
 use Rattle.ptb_options.specs.declared.wrong_numbers.NumberOption.{NumberOption}
 
--- the argument doesn't name the option with a number whose rule is at this place
+-- the argument doesn't name the option with a number whose rule is at this index
 abbrev pub IsUnnamedAt : List ℕ → ℕ → Type 0
 IsUnnamedAt word k =
     (o : NumberOption) → get_or rules k (number_option o.name.now o.range) ≡ number_option o.name.now o.range → word
@@ -26,7 +26,7 @@ pub so_far_more : (args : List ListedArg) (n i : ℕ) → map rule_of_listed (ta
     → map rule_of_listed args ≡ rules → map rule_of_listed (take n args) ≡ take n rules
 so_far_more args n i so_far same = sym (take-map rule_of_listed n args) ∙ ap (take n) same
 
--- the option at a place of the arguments
+-- the option at an index of the arguments
 pub found : (word : List ℕ) (args : List ListedArg) (i : ℕ) (d : ListedArg) (range : ValueParser)
     → map rule_of_listed (take i args) ≡ take i rules → map rule_of_listed args ≡ rules → i < length args
     → (get_or args i d).kind ≡ kinds.Number range → word ≡ option_word (get_or args i d).name.now

@@ -35,15 +35,15 @@ use Rattle.ptb_options.specs.CommandLine.{number_option, rules as tool_rules, to
 use Rattle.ptb_options.specs.Options.{entries_of, number_in, number_of}
 use Rattle.ptb_options.proofs.OptionReads.{number_in-reads}
 
--- whether none of the rules has a name, and whether none has it but the one at a place
+-- whether none of the rules has a name, and whether none has it but the one at an index
 has_none : List Rule → List ℕ → Bool
 has_none [] name = true
 has_none (r ∷ rs) name = not (bytes_eq r.id name) && has_none rs name
 
 has_only : List Rule → List ℕ → ℕ → Bool
-has_only [] name place = true
+has_only [] name index = true
 has_only (r ∷ rs) name zero = has_none rs name
-has_only (r ∷ rs) name (suc place) = not (bytes_eq r.id name) && has_only rs name place
+has_only (r ∷ rs) name (suc index) = not (bytes_eq r.id name) && has_only rs name index
 
 none_has : (rs : List Rule) (name : List ℕ) (j : ℕ) (r : Rule) → has_none rs name ≡ true → j < length rs
     → bytes_eq (get_or rs j r).id name ≡ true → ⊥
@@ -52,30 +52,30 @@ none_has [] name j r none lt e = omega arith
 none_has (q ∷ rs) name zero r none lt e = false≢true (sym (ap not e) ∙ (and_parts _ _ none).0)
 none_has (q ∷ rs) name (suc j) r none lt e = none_has rs name j r (and_parts _ _ none).1 (omega arith) e
 
-only_has : (rs : List Rule) (name : List ℕ) (place j : ℕ) (r : Rule) → has_only rs name place ≡ true → j < length rs
-    → bytes_eq (get_or rs j r).id name ≡ true → j ≡ place
+only_has : (rs : List Rule) (name : List ℕ) (index j : ℕ) (r : Rule) → has_only rs name index ≡ true → j < length rs
+    → bytes_eq (get_or rs j r).id name ≡ true → j ≡ index
 unfolding has_only
-only_has [] name place j r only lt e = absurd (omega arith)
+only_has [] name index j r only lt e = absurd (omega arith)
 only_has (q ∷ rs) name zero zero r only lt e = refl
 only_has (q ∷ rs) name zero (suc j) r only lt e = absurd (none_has rs name j r only (omega arith) e)
-only_has (q ∷ rs) name (suc place) zero r only lt e = absurd (false≢true (sym (ap not e) ∙ (and_parts _ _ only).0))
-only_has (q ∷ rs) name (suc place) (suc j) r only lt e =
-    ap (λ n. suc n) (only_has rs name place j r (and_parts _ _ only).1 (omega arith) e)
+only_has (q ∷ rs) name (suc index) zero r only lt e = absurd (false≢true (sym (ap not e) ∙ (and_parts _ _ only).0))
+only_has (q ∷ rs) name (suc index) (suc j) r only lt e =
+    ap (λ n. suc n) (only_has rs name index j r (and_parts _ _ only).1 (omega arith) e)
 
--- an option with a number: its place among the options, where no other has its name, and its range
-record IsOption (name : List ℕ) (place low high : ℕ) : Type 0 where
-  there : (r : Rule) → get_or tool_rules place r ≡ number_option name (Signed (pos low) (pos high))
-  only : has_only tool_rules name place ≡ true
-  inside : place < 16
+-- an option with a number: its index among the options, where no other has its name, and its range
+record IsOption (name : List ℕ) (index low high : ℕ) : Type 0 where
+  there : (r : Rule) → get_or tool_rules index r ≡ number_option name (Signed (pos low) (pos high))
+  only : has_only tool_rules name index ≡ true
+  inside : index < 16
   fits : high < 65536
   named : (name ≡ [] → ⊥) × (name ≡ codes "help" → ⊥) × (name ≡ codes "version" → ⊥)
 
 -- it is an option up to 32767, where its name is none of clap's own
-option_up : (name : List ℕ) (place low : ℕ)
-    → ((r : Rule) → get_or tool_rules place r ≡ number_option name (Signed (pos low) (pos 32767)))
-    → has_only tool_rules name place ≡ true → place < 16
-    → (name ≡ [] → ⊥) × (name ≡ codes "help" → ⊥) × (name ≡ codes "version" → ⊥) → IsOption name place low 32767
-option_up name place low there only inside named = record {
+option_up : (name : List ℕ) (index low : ℕ)
+    → ((r : Rule) → get_or tool_rules index r ≡ number_option name (Signed (pos low) (pos 32767)))
+    → has_only tool_rules name index ≡ true → index < 16
+    → (name ≡ [] → ⊥) × (name ≡ codes "help" → ⊥) × (name ≡ codes "version" → ⊥) → IsOption name index low 32767
+option_up name index low there only inside named = record {
   there = there;
   only = only;
   inside = inside;
@@ -91,7 +91,7 @@ choose_option : IsOption (codes "choose") 2 1 32767
 unfolding has_only has_none
 choose_option = option_up (codes "choose") 2 1 (λ r. refl) refl (omega arith) (λ e. cc, λ e. cc, λ e. cc)
 
-module _ (name : List ℕ) (place low high : ℕ) (option : IsOption name place low high) (c : Command) (m : ArgMatches)
+module _ (name : List ℕ) (index low high : ℕ) (option : IsOption name index low high) (c : Command) (m : ArgMatches)
     (is_tool : app_of c ≡ tool) (p : IsParsedFrom c m) where
   rules_are : map rule_of (args_of c) ≡ tool_rules
   rules_are = ap (λ a. a.top.rules) is_tool
@@ -104,23 +104,23 @@ module _ (name : List ℕ) (place low high : ℕ) (option : IsOption name place 
   rule_at j d lt =
       sym (get_or-map rule_of (args_of c) j d (rule_of d) lt) ∙ ap (λ rs. get_or rs j (rule_of d)) rules_are
 
-  within : place < length (args_of c)
+  within : index < length (args_of c)
   within = omega (arith, count, option.inside)
 
-  id_is : (d : Arg) → (get_or (args_of c) place d).id.now ≡ name
-  id_is d = ap (λ r. r.id) (rule_at place d within ∙ option.there (rule_of d))
+  id_is : (d : Arg) → (get_or (args_of c) index d).id.now ≡ name
+  id_is d = ap (λ r. r.id) (rule_at index d within ∙ option.there (rule_of d))
 
-  own : (d : Arg) → IsAuto (get_or (args_of c) place d) → ⊥
+  own : (d : Arg) → IsAuto (get_or (args_of c) index d) → ⊥
   own d (inl h) = option.named.1 (sym (id_is d) ∙ h)
   own d (inr h) = option.named.2 (sym (id_is d) ∙ h)
 
   unique : (d : Arg) (j : ℕ) (e : Arg) → j < length (args_of c)
-      → bytes_eq (get_or (args_of c) j e).id.now (get_or (args_of c) place d).id.now ≡ true → j ≡ place
+      → bytes_eq (get_or (args_of c) j e).id.now (get_or (args_of c) index d).id.now ≡ true → j ≡ index
   unique d j e lt same =
       let its : (get_or (args_of c) j e).id.now ≡ (get_or tool_rules j (rule_of e)).id =
       ap (λ r. r.id) (rule_at j e lt) in
       let named : bytes_eq (get_or tool_rules j (rule_of e)).id name ≡ true = rw (its, id_is d) at same in
-      only_has tool_rules name place j (rule_of e) option.only
+      only_has tool_rules name index j (rule_of e) option.only
       (subst (λ n. j < n) (sym (length-map (args_of c) rule_of) ∙ ap length rules_are) lt) named
 
   -- an argument of the built command with this id has the option's parser
@@ -128,10 +128,10 @@ module _ (name : List ℕ) (place low high : ℕ) (option : IsOption name place 
       → bytes_eq x.id.now name ≡ true
       → parser_of x ≡ Signed (pos low) (pos high)
   parser_is j x lt at same =
-      let named : bytes_eq x.id.now (get_or (args_of c) place x).id.now ≡ true = rw (id_is x) same in
-      let kept = same_rules_by_id c m p place x within (unique x) (own x) j x lt at named in
+      let named : bytes_eq x.id.now (get_or (args_of c) index x).id.now ≡ true = rw (id_is x) same in
+      let kept = same_rules_by_id c m p index x within (unique x) (own x) j x lt at named in
       ap parser_of_value (kept.parser (Signed (pos low) (pos high))
-      (ap (λ r. r.parser) (rule_at place x within ∙ option.there (rule_of x))))
+      (ap (λ r. r.parser) (rule_at index x within ∙ option.there (rule_of x))))
 
   no_groups : groups_of p.built ≡ []
   no_groups =

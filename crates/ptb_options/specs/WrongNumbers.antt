@@ -54,18 +54,18 @@ abbrev pub HasNoWrongValue : Option (List ℕ) → Option (List ℕ) → Type 0
 HasNoWrongValue word next = (w : WrongNumber) → IsWrongValue word next w → ⊥
 
 -- the first argument is the program's name, and after `--` no argument is an option
-pub record MayBeOption (words : List (List ℕ)) (place : ℕ) : Type 0 where
-  pub after_name : 1 ≤ place
-  pub before_dashes : (i : ℕ) → 1 ≤ i → i ≤ place → slice_get words i ≢ Some (codes "--")
+pub record MayBeOption (words : List (List ℕ)) (index : ℕ) : Type 0 where
+  pub after_name : 1 ≤ index
+  pub before_dashes : (i : ℕ) → 1 ≤ i → i ≤ index → slice_get words i ≢ Some (codes "--")
 
-pub record IsWrongAt (words : List (List ℕ)) (place : ℕ) (w : WrongNumber) : Type 0 where
-  pub may_be : MayBeOption words place
-  pub value : IsWrongValue (slice_get words place) (slice_get words (place + 1)) w
+pub record IsWrongAt (words : List (List ℕ)) (index : ℕ) (w : WrongNumber) : Type 0 where
+  pub may_be : MayBeOption words index
+  pub value : IsWrongValue (slice_get words index) (slice_get words (index + 1)) w
 
 pub record IsWrongNumber (words : List (List ℕ)) (w : WrongNumber) : Type 0 where
-  pub place : ℕ
-  pub is : IsWrongAt words place w
-  pub first : (i : ℕ) (other : WrongNumber) → i < place → IsWrongAt words i other → ⊥
+  pub index : ℕ
+  pub is : IsWrongAt words index w
+  pub first : (i : ℕ) (other : WrongNumber) → i < index → IsWrongAt words i other → ⊥
 
 abbrev pub HasNoWrongNumber : List (List ℕ) → Type 0
-HasNoWrongNumber words = (place : ℕ) (w : WrongNumber) → IsWrongAt words place w → ⊥
+HasNoWrongNumber words = (index : ℕ) (w : WrongNumber) → IsWrongAt words index w → ⊥

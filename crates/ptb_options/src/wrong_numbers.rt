@@ -72,7 +72,7 @@ pub fn wrong_number<'a, S: AsStr>(words: &'a [S]) -> Option<WrongNumber<'a>>
     None
 }
 
-// The argument at a place, if there is one.
+// The argument at an index, if there is one.
 fn text_at<'a, S: AsStr>(words: &'a [S], i: usize) -> Option<&'a str>
     ensures { option_copied result ≡ slice_get (map S.text words.entry.now) i }
 {

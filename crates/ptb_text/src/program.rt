@@ -168,7 +168,7 @@ impl Program {
         }
     }
 
-    /// Where the text of the statement at this place is, or the end of all texts.
+    /// Where the text of the statement at this index is, or the end of all texts.
     pub(crate) fn place_of(&self, at: usize) -> u16
         requires { at ≤ length self.now.lines }
         ensures { result ≡ texts_length (take at self.now.lines) }
@@ -187,7 +187,7 @@ impl Program {
         (self.pool.len() + STATEMENT_COST * self.statements.len()) as u16
     }
 
-    /// The number and the text of the statement at a place, counted from 0 in rising order.
+    /// The number and the text of the statement at an index, counted from 0 in rising order.
     pub(crate) fn statement_at(&self, at: usize) -> (u16, &[u8])
         requires { at < length self.now.lines }
         ensures line { slice_get self.now.lines at ≡ Some (result.0, result.1.now) }
@@ -199,7 +199,7 @@ impl Program {
         (statement.number, text)
     }
 
-    // The number of the statement at this place, if there is one.
+    // The number of the statement at this index, if there is one.
     fn number_at(&self, at: usize) -> Option<i16>
         ensures value { result ≡ option_map (λ s. pos s.0) (slice_get self.now.lines at) }
         ensures text { IfSome result (λ n. IsSome (text_under self.now.lines n)) }
