@@ -6,7 +6,7 @@ ghost use Rattle.ptb_chances.specs.Prelude.{ResultsRise, reduced, key_result, re
 
 use crate::result_key::ResultKey;
 use crate::tally::{ResultShare, Tally};
-use ptb_machine::word;
+use ptb_machine::ending_word;
 use ptb_numbers::{LowestTerms, Natural};
 use std::alloc::{AllocError, Global};
 
@@ -53,7 +53,7 @@ fn write_result(alloc: Global, key: &ResultKey, text: &mut Vec<u8>) -> Result<()
     ensures { OnOk result (text.new.items ≡ text.old.items ++ result_text (key_result key.now)) }
 {
     text.extend_from_slice(b" ")?;
-    text.extend_from_slice(word(key.ending))?;
+    text.extend_from_slice(ending_word(key.ending))?;
     write_number(alloc, &natural(alloc, key.line.len() as u64)?, text)?;
     text.extend_from_slice(b"\n")?;
     text.extend_from_slice(&key.line)?;

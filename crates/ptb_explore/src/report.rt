@@ -6,7 +6,7 @@ ghost use Rattle.ptb_explore.specs.Prelude.{asked_items, ending_word, report_tex
 use crate::report_text::Parts;
 use crate::report_writer::ReportWriter;
 use ptb_answers::{Asked, Form};
-use ptb_machine::{Ending, word};
+use ptb_machine::{Ending, ending_word};
 use ptb_text::{DeviceFault, Write};
 use std::alloc::Global;
 
@@ -54,7 +54,7 @@ impl Report {
         let parts = Parts {
             form,
             asked: &self.asked,
-            word: word(self.ending),
+            word: ending_word(self.ending),
             steps: self.steps,
             transcript: &self.transcript,
         };

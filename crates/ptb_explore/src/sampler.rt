@@ -130,7 +130,7 @@ fn write_run<W: Write>(
     let report = Parts {
         form,
         asked: sampler.chooser.asked(),
-        word: word(ending),
+        word: ending_word(ending),
         steps: sampler.machine.steps(),
         transcript: sampler.screen.bytes(),
     };

@@ -18,7 +18,7 @@
 #![tactic(auto)]
 
 mod complete_run;
-mod ending_word;
+mod ending_words;
 mod fault;
 mod fault_report;
 mod laws;
@@ -34,7 +34,7 @@ mod short_forms;
 mod stop_result;
 
 pub use complete_run::run;
-pub use ending_word::word;
+pub use ending_words::ending_word;
 pub use fault::{RunFault, memory_refusal};
 pub use fault_report::report_fault;
 pub use laws::{effect_laws, ending_laws, run_laws, seeded_laws};

@@ -7,7 +7,7 @@ use crate::tests::shared::{
 };
 use crate::tests::writing::{Source, Writing, Written, source_of};
 use ptb_explore::{Form, Marked, OpenFault};
-use ptb_machine::{Ending, word};
+use ptb_machine::{Ending, ending_word};
 use ptb_text::Program;
 use std::alloc::{AllocError, Global};
 use std::test::Fail;
@@ -147,7 +147,7 @@ struct EndingWord(Ending, &'static [u8]);
 
 impl Row<()> for EndingWord {
     fn holds(&self, _context: &()) -> bool {
-        word(self.0) == self.1
+        ending_word(self.0) == self.1
     }
 }
 

@@ -16,7 +16,7 @@ use Rattle.ptb_explore.proofs.sampler.write_run.Goals.{After-write}
 -- what is written is the report of the run
 is_report : (g : _) (c : After-write g)
     → report_text (items_in c.args.form (answers_in c.asked.result.now) (bounds_in c.asked.result.now))
-    c.word.result.now
+    c.ending_word.result.now
     c.steps.result c.bytes.result.now
     ≡ report c.args.form (play c.args.sampler.now.player c.args.lines.now c.args.rules)
     (answers_by (most_answers c.args.sampler.now.player c.args.lines.now c.args.rules.limit)
@@ -26,7 +26,7 @@ is_report g c =
     let lines = c.args.lines.now in
     written_is (play p lines c.args.rules) (most_answers p lines c.args.rules.limit)
     (c.run_laws.ensures.reads p lines c.args.rules) c.args.sampler.now.chooser.first c.play_next.new.sampler.chooser _
-    c.in-Ok.ensures.drawn c.args.form _ _ _ _ _ c.asked.ensures.answers c.asked.ensures.bounds c.word.ensures
+    c.in-Ok.ensures.drawn c.args.form _ _ _ _ _ c.asked.ensures.answers c.asked.ensures.bounds c.ending_word.ensures
     c.steps.ensures c.bytes.ensures
 
 pub returns-in-Ok-write-clause-writes : goal.returns-in-Ok-write-clause-writes

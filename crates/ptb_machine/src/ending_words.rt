@@ -1,4 +1,4 @@
-// This file has the word of an ending, as reports and tables have it (`word`).
+// This file has the word of an ending, as reports and tables have it (`ending_word`).
 
 ghost use Rattle.std.specs.Prelude.{◌≡◌};
 ghost use Rattle.ptb_machine.specs.Prelude.{ending_word};
@@ -6,7 +6,7 @@ ghost use Rattle.ptb_machine.specs.Prelude.{ending_word};
 use ptb_command::Ending;
 
 /// The word of an ending. The two that no report has are empty.
-pub fn word(ending: Ending) -> &'static [u8]
+pub fn ending_word(ending: Ending) -> &'static [u8]
     ensures { result.now ≡ ending_word ending }
 {
     match ending {
