@@ -84,7 +84,7 @@ pub(crate) fn mistake_of(program: &Program, code: &CommandCode) -> Option<Fault>
         → result ≡ command_mistake program.now.lines (command_at t i) }
 {
     code_mistake_laws();
-    code_mistake(program, code.steps(), code.operations())
+    code_mistake(program, code.expression_steps(), code.operations())
 }
 
 // The mistake of a command, by its operations.

@@ -219,7 +219,7 @@ pub(crate) fn done<S: Screen>(
         program,
         statement: 0,
         operations: code.operations(),
-        steps: code.steps(),
+        steps: code.expression_steps(),
     };
     let mut chooser = Listed::new(offer.answers);
     let mut source = Lines::new(offer.lines);
