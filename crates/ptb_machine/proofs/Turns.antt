@@ -11,7 +11,7 @@ use Rattle.ptb_command.specs.Act.{StepResult, Next, Over, with_step}
 use Rattle.ptb_machine.specs.Play.{FinalState, act_unless, turn_by, turn, after_turn, turns_within}
 use Rattle.ptb_machine.specs.Play.{all_turns, last_state, finish_of, after_step_result, turns}
 use Rattle.ptb_command.specs.Effects.{act_state, Begins, CommandChange}
-use Rattle.ptb_machine.specs.RunEffects.{run_shown, run_steps, TurnChange}
+use Rattle.ptb_machine.specs.RunEffects.{run_shown, steps_of_run, TurnChange}
 use Rattle.ptb_command.proofs.PublicLemmas.{begins_itself, begins_joined, takes_itself, takes_joined, act_keeps}
 
 -- ---- one turn
@@ -155,7 +155,7 @@ told_shown (Done l rest) = refl
 told_shown (Asks n T) = refl
 told_shown (Out n T) = refl
 
-told_steps : (u : Outcome FinalState State) → run_steps (map_outcome finish_of (λ (T : State). T) u) ≡
+told_steps : (u : Outcome FinalState State) → steps_of_run (map_outcome finish_of (λ (T : State). T) u) ≡
     (last_state u).steps
 told_steps (Done l rest) = refl
 told_steps (Asks n T) = refl
@@ -168,7 +168,7 @@ turns_shown p limit S a = subst (Begins S.shown) (sym (told_shown (all_turns p l
     (all_change p limit S a).shown
 
 pub turns_steps : (p : StoredProgram) (limit : ℕ) (S : State) (a : Answers) → S.steps ≤ limit
-    → run_steps (turns p limit S a) ≤ limit
+    → steps_of_run (turns p limit S a) ≤ limit
 unfolding turns
 turns_steps p limit S a h = subst (λ (n : ℕ). n ≤ limit) (sym (told_steps (all_turns p limit S a)))
     ((all_change p limit S a).steps h)

@@ -15,7 +15,7 @@ use Rattle.ptb_machine.specs.Play.{turn, after_turn, turns_within, all_turns, la
 use Rattle.ptb_machine.specs.Play.{after_step_result, turns, play}
 use Rattle.ptb_machine.specs.Questions.{most_answers, answers_left}
 use Rattle.ptb_command.specs.Effects.{action_state, act_state, Begins, PartChange, EndChange, CommandChange}
-use Rattle.ptb_machine.specs.RunEffects.{run_shown, run_steps, TurnChange}
+use Rattle.ptb_machine.specs.RunEffects.{run_shown, steps_of_run, TurnChange}
 
 -- ---- what may change
 
@@ -70,7 +70,7 @@ pub record RunLaws : Type 0 where
   -- a run begins no more commands than the limit says
   pub within_limit :
       (p : StoredProgram) (limit : ℕ) (S : State) (a : Answers)
-      → S.steps ≤ limit → run_steps (turns p limit S a) ≤ limit
+      → S.steps ≤ limit → steps_of_run (turns p limit S a) ≤ limit
   -- Answers are taken one by one, each where it is asked for and within its bound, and at most so many of them:
   -- what a run does with the first answers doesn't depend on later ones.
   pub reads :

@@ -14,10 +14,10 @@ run_shown (Done f rest) = f.shown
 run_shown (Asks n S) = S.shown
 run_shown (Out n S) = S.shown
 
-abbrev pub run_steps : Outcome Finish State → ℕ
-run_steps (Done f rest) = f.steps
-run_steps (Asks n S) = S.steps
-run_steps (Out n S) = S.steps
+abbrev pub steps_of_run : Outcome Finish State → ℕ
+steps_of_run (Done f rest) = f.steps
+steps_of_run (Asks n S) = S.steps
+steps_of_run (Out n S) = S.steps
 
 -- where a turn begins within the limits it ends within them
 pub record TurnChange (limit : ℕ) (S T : State) : Type 0 where
