@@ -22,7 +22,7 @@ use Rattle.ptb_options.specs.declared.usage.UsageFault.{UsageFault}
 use Rattle.ptb_options.specs.declared.usage.UsageFault.TheVariants.{BadList, Memory}
 use Rattle.ptb_options.specs.Options.{HasMistake, IsFirstMisspelled, IsMisspelledIn, IsSpelled}
 use Rattle.ptb_options.specs.Options.{Options, RunsIt, RefusesAnswers, RefusesIfGiven}
-use Rattle.ptb_options.specs.Options.{SpellsIfGiven, LacksMemory, bounds_for, form_of, list_text}
+use Rattle.ptb_options.specs.Options.{SpellsIfGiven, LacksMemory, bounds_for, form_of, list_argument}
 
 -- a list with a mistake is none
 mistaken : (bounds : Bounds) (text : Option (List ℕ)) (m : ListMistake) → HasMistake bounds text m
@@ -31,7 +31,7 @@ mistaken bounds None m h = h
 mistaken bounds (Some s) m h = h.not_list
 
 pub first_misspelled : (o : Options) (m : MisspelledList) → IsFirstMisspelled o m → IsMisspelledIn o m.option
-first_misspelled o m h = mistaken (bounds_for m.option) (list_text o m.option) m.mistake h.1
+first_misspelled o m h = mistaken (bounds_for m.option) (list_argument o m.option) m.mistake h.1
 
 -- o are the options, and v is how the code has them
 module _ (o v : Options) (same : v ≡ o) (under : ForSome v.under (IsListOf Allowed)) (m : ListMistake) where

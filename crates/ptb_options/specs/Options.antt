@@ -10,7 +10,7 @@
 --     clash o                    the fault of the first of them
 --     default_steps, default_memory     the numbers of a request that gives none
 --     Requests o r               the options ask for the request r
---     list_text o x                the list of an option, as text
+--     list_argument o x            the list of an option, as text
 --     IsSpelled o x              it is a list, or is left out
 --     IsMisspelledIn o x         it is no list
 --     IsFirstMisspelled o m      m is what is wrong with the first of them that is no list
@@ -238,10 +238,10 @@ pub record Requests (o : Options) (r : Request) : Type 0 where
 
 -- ---- why they are a usage error
 
-abbrev pub list_text : Options → ListOption → Option (List ℕ)
-list_text o Under = o.under
-list_text o After = o.after
-list_text o Answers = o.answers
+abbrev pub list_argument : Options → ListOption → Option (List ℕ)
+list_argument o Under = o.under
+list_argument o After = o.after
+list_argument o Answers = o.answers
 
 -- a run is played by numbers alone, and named with their bounds or without
 abbrev pub bounds_for : ListOption → Bounds
@@ -249,10 +249,10 @@ bounds_for Answers = Refused
 bounds_for _ = Allowed
 
 abbrev pub IsSpelled : Options → ListOption → Type 0
-IsSpelled o x = ForSome (list_text o x) (IsListOf (bounds_for x))
+IsSpelled o x = ForSome (list_argument o x) (IsListOf (bounds_for x))
 
 abbrev pub IsMisspelledIn : Options → ListOption → Type 0
-IsMisspelledIn o x = IsSomeAnd (list_text o x) (λ s. IsListOf (bounds_for x) s → ⊥)
+IsMisspelledIn o x = IsSomeAnd (list_argument o x) (λ s. IsListOf (bounds_for x) s → ⊥)
 
 -- what is wrong with a list that may be left out
 abbrev pub HasMistake : Bounds → Option (List ℕ) → ListMistake → Type 0
@@ -265,7 +265,8 @@ EarlierSpelled o After = IsSpelled o Under
 EarlierSpelled o Answers = IsSpelled o Under × IsSpelled o After
 
 abbrev pub IsFirstMisspelled : Options → MisspelledList → Type 0
-IsFirstMisspelled o m = EarlierSpelled o m.option × HasMistake (bounds_for m.option) (list_text o m.option) m.mistake
+IsFirstMisspelled o m = EarlierSpelled o m.option × HasMistake (bounds_for m.option)
+    (list_argument o m.option) m.mistake
 
 -- a list that may be left out is misspelled, or it has items and memory is wanted for them
 abbrev pub RefusesIfGiven : Option (List ℕ) → UsageFault → Type 0
