@@ -6,7 +6,7 @@ mod JoinedAccounts
 mod Coverage
 mod LastLines
 mod Leaves
-mod Loads
+mod WorkLeft
 mod LowestTerms
 mod Orders
 mod PickedAnswers

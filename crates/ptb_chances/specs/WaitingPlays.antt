@@ -11,7 +11,7 @@
 --     Takes old w new                one of them was taken out
 --     Puts old w new                 one was put in: by itself, or together with one in the same state
 --     after_answer w n k             the same plays after the answer k to a question with bound n
---     load limit most ws             more than is left to be done
+--     work_left limit most ws        more than is left to be done
 use Rattle.std.specs.Prelude.{◌≡◌, ◌⊎◌, ◌<◌, ◌≤◌, ℕ, zero, suc, ◌+◌, ◌-◌, ◌*◌, List, [], ◌∷◌, ◌++◌}
 use Rattle.std.specs.Prelude.{map, length, drop, true, false, ℤ, pos}
 use Rattle.std.specs.List.{flat_map, AllByRecursion}
@@ -186,9 +186,9 @@ abbrev pub power : ℕ → ℕ
 power zero = 1
 power (suc n) = 65536 * power n
 
-abbrev pub load_of : ℕ → ℕ → Standing → ℕ
-load_of limit most w = power (depth_left limit most w)
+abbrev pub work_of : ℕ → ℕ → Standing → ℕ
+work_of limit most w = power (depth_left limit most w)
 
-abbrev pub load : ℕ → ℕ → List Standing → ℕ
-load limit most [] = 0
-load limit most (w ∷ ws) = load_of limit most w + load limit most ws
+abbrev pub work_left : ℕ → ℕ → List Standing → ℕ
+work_left limit most [] = 0
+work_left limit most (w ∷ ws) = work_of limit most w + work_left limit most ws

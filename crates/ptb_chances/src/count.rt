@@ -3,7 +3,7 @@
 
 ghost use Rattle.std.specs.Prelude.{◌≡◌, ◌<◌, [], ◌∷◌, IfOk, OnOk};
 ghost use Rattle.ptb_chances.specs.Prelude.{lines, play, most_answers, last_line, tree, AddsRow, IsAccountOf};
-ghost use Rattle.ptb_chances.specs.Prelude.{IsTallied, load_left, planned, standings};
+ghost use Rattle.ptb_chances.specs.Prelude.{IsTallied, work_to_do, planned, standings};
 
 use crate::last_line::last_line;
 use crate::plays::{PlayDevices, Played};
@@ -93,8 +93,8 @@ impl<'p, 'l> Count<'p, 'l> {
             ≡ self.old.stage.devices.source.lines }
         ensures counted { OnOk result (IsTallied self.old.stage self.new.tally
             (standings self.new.work)) }
-        ensures less { OnOk result (load_left self.old.stage (standings self.new.work)
-            < load_left self.old.stage
+        ensures less { OnOk result (work_to_do self.old.stage (standings self.new.work)
+            < work_to_do self.old.stage
             (planned self.old.work.state plan ∷ standings self.old.work)) }
     {
         run_laws();

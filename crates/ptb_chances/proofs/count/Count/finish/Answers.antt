@@ -2,7 +2,7 @@
 use Rattle.std.proofs.Common.{rules, ◌≡◌, List, [], subst, ◌∙◌}
 use Rattle.ptb_chances.specs.CountedRuns.{IsTallied}
 use Rattle.ptb_chances.specs.WaitingPlays.{Standing, planned, standings}
-use Rattle.ptb_chances.proofs.Loads.{less_there}
+use Rattle.ptb_chances.proofs.WorkLeft.{less_there}
 use Rattle.ptb_chances.proofs.SettledPlays.{accounted_next}
 use Rattle.ptb_chances.proofs.count.Count.finish.Goals as goal
 

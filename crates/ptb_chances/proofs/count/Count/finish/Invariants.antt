@@ -1,6 +1,6 @@
 -- This file says that with what is left to be played, the tally is the account of all runs.
 use Rattle.std.proofs.Common.{◌≡◌}
-use Rattle.ptb_chances.specs.CountedRuns.{IsTallied, load_left}
+use Rattle.ptb_chances.specs.CountedRuns.{IsTallied, work_to_do}
 use Rattle.ptb_chances.specs.WaitingPlays.{standings}
 use Rattle.ptb_chances.proofs.count.Count.finish.Given as goal
 
@@ -13,4 +13,4 @@ invariant-plans g l = record {
 }
 
 abbrev pub decreases-plans : goal.decreases-plans
-decreases-plans g l = load_left l.fn.self.stage (standings l.self.work)
+decreases-plans g l = work_to_do l.fn.self.stage (standings l.self.work)

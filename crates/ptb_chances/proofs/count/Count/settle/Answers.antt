@@ -4,7 +4,7 @@ use Rattle.std.specs.Prelude.{unsigned_abs}
 use Rattle.ptb_machine.specs.Questions.{most_answers}
 use Rattle.ptb_chances.specs.WaitingPlays.{Puts, gone_to, planned, standings}
 use Rattle.ptb_chances.proofs.PassedOn.{on_ok}
-use Rattle.ptb_chances.proofs.Loads.{load_asked, load_gone, load_some}
+use Rattle.ptb_chances.proofs.WorkLeft.{work_asked, work_gone, work_some}
 use Rattle.ptb_chances.proofs.SettledPlays.{asked_positive, one_opens, planned_less, settled_asked}
 use Rattle.ptb_chances.proofs.SettledPlays.{settled_gone, settled_over}
 use Rattle.ptb_chances.proofs.count.Count.settle.Goals as goal
@@ -33,7 +33,7 @@ returns-in-Over-clause-counted c =
 pub returns-in-Over-clause-less : goal.returns-in-Over-clause-less
 returns-in-Over-clause-less c =
     let s = c.args.self.now in
-    on_ok c.add_over.result c.add_over.ensures (λ _. load_some s.stage.rules.limit
+    on_ok c.add_over.result c.add_over.ensures (λ _. work_some s.stage.rules.limit
     (most_answers s.stage.player s.stage.devices.source.lines s.stage.rules.limit) (planned s.work.state c.args.plan)
     (standings s.work))
 
@@ -50,7 +50,7 @@ returns-in-Asks-clause-less c =
     let plays = rw c.in-Asks.is at c.in_ok-played.ensures.plays.1 in
     let fits : FitsSigned w16 c.in-Asks.bound = search rules in
     let few : unsigned_abs c.in-Asks.bound < 65536 = search rules in
-    on_ok c.add_plans.result c.add_plans.ensures (λ put. load_asked c.args.self.now.stage.rules.limit _ _
+    on_ok c.add_plans.result c.add_plans.ensures (λ put. work_asked c.args.self.now.stage.rules.limit _ _
     c.in-Asks.bound (planned_less _ _ _ _ _ _ _ c.requires (c.run_laws.ensures.reads _ _ _) c.in-Asks.bound plays)
     (unsigned_abs c.in-Asks.bound) _ (standings c.add_plans.new.self) few (rw (to_z-of_z fits) at put))
 
@@ -73,5 +73,5 @@ returns-in-Goes-clause-less c =
     let before = c.play.new.self.before in
     let put : Puts (standings s.work) (gone_to before.machine before.taken before.shown.items c.args.plan.chance
     c.args.plan.runs) (standings c.add.new.self) = rw (c.at.ensures, c.replace-state.ensures.value) at there in
-    load_gone s.stage.rules.limit (most_answers s.stage.player s.stage.devices.source.lines s.stage.rules.limit)
+    work_gone s.stage.rules.limit (most_answers s.stage.player s.stage.devices.source.lines s.stage.rules.limit)
     (standings s.work) _ (planned s.work.state c.args.plan) _ put goes.1)

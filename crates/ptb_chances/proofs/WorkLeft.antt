@@ -1,5 +1,5 @@
 -- This file proves that less is left to be done with each answer, and with each command.
--- Main lemmas: `load_gone` and `load_asked`.
+-- Main lemmas: `work_gone` and `work_asked`.
 use Rattle.std.proofs.Common.{◌≡◌, ℕ, zero, suc, ◌+◌, ◌-◌, ◌*◌, ◌<◌, ◌≤◌, List, [], ◌∷◌, ◌++◌}
 use Rattle.std.proofs.Common.{length, refl, ap, sym, subst, ◌∙◌, inl, inr, arith, length-append}
 use Rattle.std.specs.Prelude.{ℤ, pos}
@@ -10,7 +10,7 @@ use Rattle.ptb_answers.specs.declared.rules.Rules.{Rules}
 use Rattle.ptb_machine.specs.Questions.{most_answers}
 use Rattle.ptb_command.specs.Configuration.{Configuration}
 use Rattle.ptb_chances.specs.WaitingPlays.{Standing, Takes, SamePlace, Puts, PutsAnswers, after_answer}
-use Rattle.ptb_chances.specs.WaitingPlays.{load, load_of, power, depth_left}
+use Rattle.ptb_chances.specs.WaitingPlays.{work_left, work_of, power, depth_left}
 
 pub power_positive : (n : ℕ) → 1 ≤ power n
 power_positive zero = omega arith
@@ -34,30 +34,30 @@ power_less m (suc n) less =
     omega (arith, rises, some)
 
 module _ (limit most : ℕ) where
-  load_split : (front back : List Standing) (w : Standing)
-      → load limit most (front ++ w ∷ back) ≡ load_of limit most w + load limit most (front ++ back)
-  load_split [] back w = refl
-  load_split (f ∷ front) back w = let rest = load_split front back w in omega (arith, rest)
+  work_split : (front back : List Standing) (w : Standing)
+      → work_left limit most (front ++ w ∷ back) ≡ work_of limit most w + work_left limit most (front ++ back)
+  work_split [] back w = refl
+  work_split (f ∷ front) back w = let rest = work_split front back w in omega (arith, rest)
 
-  pub load_taken : (old new : List Standing) (w : Standing) → Takes old w new
-      → load limit most old ≡ load_of limit most w + load limit most new
-  load_taken old new w t = ap (load limit most) t.old_is ∙ load_split t.front t.back w
-      ∙ ap (λ ws. load_of limit most w + load limit most ws) (sym t.new_is)
+  pub work_taken : (old new : List Standing) (w : Standing) → Takes old w new
+      → work_left limit most old ≡ work_of limit most w + work_left limit most new
+  work_taken old new w t = ap (work_left limit most) t.old_is ∙ work_split t.front t.back w
+      ∙ ap (λ ws. work_of limit most w + work_left limit most ws) (sym t.new_is)
 
-  pub load_some : (w : Standing) (ws : List Standing) → load limit most ws < load limit most (w ∷ ws)
-  load_some w ws = let some = power_positive (depth_left limit most w) in omega (arith, some)
+  pub work_some : (w : Standing) (ws : List Standing) → work_left limit most ws < work_left limit most (w ∷ ws)
+  work_some w ws = let some = power_positive (depth_left limit most w) in omega (arith, some)
 
   same_depth : (v u : Standing) → SamePlace v u → depth_left limit most v ≡ depth_left limit most u
   same_depth v u same = ap (λ (m : Configuration). (limit - m.steps) * (most + 1) + (most - length v.plan)) same.machine
       ∙ ap (λ (plan : Answers). (limit - u.machine.steps) * (most + 1) + (most - length plan)) same.plan
 
-  pub load_put : (old new : List Standing) (w : Standing) → Puts old w new
-      → load limit most new ≤ load_of limit most w + load limit most old
-  load_put old new w (inl t) = let e = load_taken new old w t in omega (arith, e)
-  load_put old new w (inr x) =
-      let before = load_taken old x.rest x.other x.before in
-      let after = load_taken new x.rest x.both x.after in
-      let same : load_of limit most x.other ≡ load_of limit most x.both =
+  pub work_put : (old new : List Standing) (w : Standing) → Puts old w new
+      → work_left limit most new ≤ work_of limit most w + work_left limit most old
+  work_put old new w (inl t) = let e = work_taken new old w t in omega (arith, e)
+  work_put old new w (inr x) =
+      let before = work_taken old x.rest x.other x.before in
+      let after = work_taken new x.rest x.both x.after in
+      let same : work_of limit most x.other ≡ work_of limit most x.both =
       ap power (same_depth x.other x.both (x.joined).first) in
       omega (arith, before, after, same)
 
@@ -73,10 +73,10 @@ module _ (limit most : ℕ) where
       omega (arith, fewer, split)
 
   -- plays continued, to another state
-  pub load_gone : (old new : List Standing) (w v : Standing) → Puts old v new
-      → limit - v.machine.steps < limit - w.machine.steps → load limit most new < load limit most (w ∷ old)
-  load_gone old new w v puts less =
-      let put = load_put old new v puts in
+  pub work_gone : (old new : List Standing) (w v : Standing) → Puts old v new
+      → limit - v.machine.steps < limit - w.machine.steps → work_left limit most new < work_left limit most (w ∷ old)
+  work_gone old new w v puts less =
+      let put = work_put old new v puts in
       let below = power_less (depth_left limit most v) (depth_left limit most w) (depth_less v w less) in
       omega (arith, put, below)
 
@@ -87,44 +87,44 @@ module _ (limit most : ℕ) where
         let longer : length (w.plan ++ k ∷ []) ≡ length w.plan + 1 = length-append w.plan (k ∷ []) in
         omega (arith, longer, planned)
 
-    load_after : (k : ℤ) → load_of limit most w ≡ 65536 * load_of limit most (after_answer w n k)
-    load_after k = ap power (depth_after k)
+    work_after : (k : ℤ) → work_of limit most w ≡ 65536 * work_of limit most (after_answer w n k)
+    work_after k = ap power (depth_after k)
 
-    load_answers : (k : ℕ) (old new : List Standing) → PutsAnswers w n k old new
-        → 65536 * load limit most new ≡ k * load_of limit most w + 65536 * load limit most old
-    load_answers zero old new puts = let same = ap (load limit most) puts in omega (arith, same)
-    load_answers (suc k) old new puts =
-        let before = load_answers k old puts.0 puts.1 in
-        let one = load_taken new puts.0 (after_answer w n (pos (suc k))) puts.2 in
-        let each = load_after (pos (suc k)) in
+    work_answers : (k : ℕ) (old new : List Standing) → PutsAnswers w n k old new
+        → 65536 * work_left limit most new ≡ k * work_of limit most w + 65536 * work_left limit most old
+    work_answers zero old new puts = let same = ap (work_left limit most) puts in omega (arith, same)
+    work_answers (suc k) old new puts =
+        let before = work_answers k old puts.0 puts.1 in
+        let one = work_taken new puts.0 (after_answer w n (pos (suc k))) puts.2 in
+        let each = work_after (pos (suc k)) in
         omega (arith, before, one, each)
 
-    pub load_asked : (k : ℕ) (old new : List Standing) → k < 65536 → PutsAnswers w n k old new
-        → load limit most new < load limit most (w ∷ old)
-    load_asked k old new few puts =
-        let all = load_answers k old new puts in
+    pub work_asked : (k : ℕ) (old new : List Standing) → k < 65536 → PutsAnswers w n k old new
+        → work_left limit most new < work_left limit most (w ∷ old)
+    work_asked k old new few puts =
+        let all = work_answers k old new puts in
         let some = power_positive (depth_left limit most w) in
-        let part : (k + 1) * load_of limit most w ≤ 65536 * load_of limit most w =
-        mul-le (k + 1) (load_of limit most w) 65536 (load_of limit most w) (omega (arith, few)) (omega arith) in
-        let split : (k + 1) * load_of limit most w ≡ k * load_of limit most w + load_of limit most w = omega arith in
+        let part : (k + 1) * work_of limit most w ≤ 65536 * work_of limit most w =
+        mul-le (k + 1) (work_of limit most w) 65536 (work_of limit most w) (omega (arith, few)) (omega arith) in
+        let split : (k + 1) * work_of limit most w ≡ k * work_of limit most w + work_of limit most w = omega arith in
         omega (arith, all, some, part, split)
 
 -- less is left than before plays were taken out, by whatever names
 pub less_there : (p q : StoredProgram) (input lines : List (List ℕ)) (by r : Rules) (old mid new : List Standing)
     (w : Standing)
     → q ≡ p → lines ≡ input → r ≡ by → Takes old w mid
-    → load r.limit (most_answers q lines r.limit) new < load r.limit (most_answers q lines r.limit) (w ∷ mid)
-    → load by.limit (most_answers p input by.limit) new < load by.limit (most_answers p input by.limit) old
+    → work_left r.limit (most_answers q lines r.limit) new < work_left r.limit (most_answers q lines r.limit) (w ∷ mid)
+    → work_left by.limit (most_answers p input by.limit) new < work_left by.limit (most_answers p input by.limit) old
 less_there p q input lines by r old mid new w program lines_are same_rules takes less =
     let limit : ℕ = by.limit in
     let most : ℕ = most_answers p input by.limit in
-    let first = subst (λ (x : Rules). load x.limit (most_answers q lines x.limit) new < load x.limit
+    let first = subst (λ (x : Rules). work_left x.limit (most_answers q lines x.limit) new < work_left x.limit
     (most_answers q lines x.limit) (w ∷ mid)) same_rules less in
-    let second = subst (λ (ls : List (List ℕ)). load by.limit (most_answers q ls by.limit) new
-    < load by.limit (most_answers q ls by.limit) (w ∷ mid)) lines_are first in
-    let here : load limit most new < load_of limit most w + load limit most mid =
-    subst (λ (x : StoredProgram). load by.limit (most_answers x input by.limit) new < load by.limit
+    let second = subst (λ (ls : List (List ℕ)). work_left by.limit (most_answers q ls by.limit) new
+    < work_left by.limit (most_answers q ls by.limit) (w ∷ mid)) lines_are first in
+    let here : work_left limit most new < work_of limit most w + work_left limit most mid =
+    subst (λ (x : StoredProgram). work_left by.limit (most_answers x input by.limit) new < work_left by.limit
     (most_answers x input by.limit) (w ∷ mid)) program second in
-    let taken : load limit most old ≡ load_of limit most w + load limit most mid =
-    load_taken limit most old mid w takes in
+    let taken : work_left limit most old ≡ work_of limit most w + work_left limit most mid =
+    work_taken limit most old mid w takes in
     omega (arith, here, taken)
