@@ -23,7 +23,7 @@ use Rattle.ptb_command.specs.Commands.{Part, Assign, Say, Width, Show, NewLine, 
 use Rattle.ptb_command.specs.State.{Place, Loop, Call, State, text_of, nesting, nesting_limit}
 use Rattle.ptb_command.specs.Actions.{Halt, Faults, Ends, Progress, Goes, Halts, Action}
 use Rattle.ptb_command.specs.Actions.{on_progress, and_then, goes_on, halt, change, show, attempt, or_halt, work_action}
-use Rattle.ptb_command.specs.Act.{newline, without_line, fails, is_full, go_to, if_not_full, action_of}
+use Rattle.ptb_command.specs.Act.{newline, without_line, fails, is_full, proceed_to, if_not_full, action_of}
 use Rattle.ptb_command.specs.Act.{goto_action, with_call, gosub_action, return_action, without_loop}
 use Rattle.ptb_command.specs.Act.{with_loop, for_action, loops_from, is_past, loop_end, loop_turn}
 use Rattle.ptb_command.specs.Commands.{letter_of}
@@ -294,7 +294,7 @@ end_joined S T U a b = record {
 halt_end : {A : Type 0} (h : Halt) → Preserves EndChange (halt {A = A} h)
 halt_end h = record { at = λ S a. end_itself S }
 
-go_to_end : (q : Option Place) → Preserves EndChange (go_to q)
+go_to_end : (q : Option Place) → Preserves EndChange (proceed_to q)
 go_to_end q = record { at = λ S a. record { lines = refl; shown = refl; steps = refl; nested = λ h. h } }
 
 -- one more is open where there is room

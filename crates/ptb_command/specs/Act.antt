@@ -148,8 +148,8 @@ abbrev pub fails : FaultKind → ℕ → Action (Unit {0})
 fails kind m = halt (Faults (fault kind m))
 
 -- the run continues at a place
-abbrev pub go_to : Option Place → Action (Unit {0})
-go_to q = change (λ S. record S { place = q })
+abbrev pub proceed_to : Option Place → Action (Unit {0})
+proceed_to q = change (λ S. record S { place = q })
 
 abbrev pub is_full : State → Bool
 is_full S = nat_le nesting_limit (nesting S)
@@ -166,7 +166,7 @@ if_place p q true = place_after p q.number
 if_place p q false = Some (next_index q)
 
 abbrev pub goto_action : ℕ → Option Place → Action (Unit {0})
-goto_action e (Some r) = go_to (Some r)
+goto_action e (Some r) = proceed_to (Some r)
 goto_action e None = fails kinds.How e
 
 -- a new level, without loops
@@ -229,16 +229,16 @@ next_action e next (l ∷ ls) =
 
 -- p is the program, q the command's place, and e the place after its parts
 unfoldable pub finish : Word → Statements → Place → ℕ → ℕ → List ℤ → Action (Unit {0})
-finish RemKw p q e x operands = go_to (place_after p q.number)
+finish RemKw p q e x operands = proceed_to (place_after p q.number)
 finish StopKw p q e x operands = halt (Ends endings.Stop)
 finish ReturnKw p q e x operands = λ S. return_action e S.calls S
-finish IfKw p q e x operands = go_to (if_place p q (int_eq (operand operands 0) (pos 0)))
+finish IfKw p q e x operands = proceed_to (if_place p q (int_eq (operand operands 0) (pos 0)))
 finish GotoKw p q e x operands = goto_action e (statement p (operand operands 0))
 finish GosubKw p q e x operands = gosub_action e (next_index q) (statement p (operand operands 0))
 finish ForKw p q e x operands =
     for_action e (record { letter = x; limit = operand operands 0; step = operand operands 1; back = next_index q })
 finish NextKw p q e x operands = λ S. next_action e (next_index q) (loops_from x S.loops) S
-finish _ p q e x operands = go_to (Some (next_index q))
+finish _ p q e x operands = proceed_to (Some (next_index q))
 
 -- the parts, and then the command
 unfoldable pub command_action : Statements → Place → Command → Action (Unit {0})
