@@ -124,8 +124,8 @@ module _ {A X : Type 0} (refused : Refusal → Type 0) (o m : Trace) (f : Action
   finished d fresh cells a (Ok x) k h = refines_part_then h (refines_part_on (λ u. ok x) a)
   finished d fresh cells a (Err (stops.Fault x)) k h =
       refines_part_then (stop_there (stops.Fault x) k h) (refines_part_on (λ u. halt (Faults x)) a)
-  finished d fresh cells a (Err stops.Ended) k h =
-      refines_part_then (stop_there stops.Ended k h) (refines_part_on (λ u. halt (Ends endings.Stop)) a)
+  finished d fresh cells a (Err stops.Over) k h =
+      refines_part_then (stop_there stops.Over k h) (refines_part_on (λ u. halt (Ends endings.Stop)) a)
   finished d fresh cells a (Err stops.NoInput) k h = cc
   finished d fresh cells a (Err (stops.Pause z)) k h =
       let w = stop_there (stops.Pause z) k h in
@@ -154,8 +154,8 @@ module _ {A X : Type 0} (refused : Refusal → Type 0) (o m : Trace) (f : Action
     finish_breaks (Ok x) k h = breaks_before (ok x) (adds x) h
     finish_breaks (Err (stops.Fault x)) k h =
         breaks_before (halt (Faults x)) (halt_adds (Faults x)) (stop_there (stops.Fault x) k h)
-    finish_breaks (Err stops.Ended) k h =
-        breaks_before (halt (Ends endings.Stop)) (halt_adds (Ends endings.Stop)) (stop_there stops.Ended k h)
+    finish_breaks (Err stops.Over) k h =
+        breaks_before (halt (Ends endings.Stop)) (halt_adds (Ends endings.Stop)) (stop_there stops.Over k h)
     finish_breaks (Err stops.NoInput) k h = cc
     finish_breaks (Err (stops.Pause z)) k h =
         let w = stop_there (stops.Pause z) k h in

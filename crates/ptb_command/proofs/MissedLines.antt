@@ -44,7 +44,7 @@ module _ (refused : DeviceFault → Type 0) (P : Type 0) where
       → P
   missed_none (Ok x) k h = h
   missed_none (Err (stops.Fault f)) k h = h
-  missed_none (Err stops.Ended) k h = h
+  missed_none (Err stops.Over) k h = h
   missed_none (Err stops.NoInput) k h = cc
   missed_none (Err (stops.Pause z)) k h = h
   missed_none (Err stops.Memory) k h = cc

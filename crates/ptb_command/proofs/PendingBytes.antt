@@ -25,7 +25,7 @@ none_either_way false = refl
 pending_is : (pending : List ℕ) (e : CommandStop) → still_pending pending e ≡ cond (is_shown_at e) pending []
 pending_is [] e = sym (none_either_way (is_shown_at e))
 pending_is (b ∷ pending) (stops.Fault f) = refl
-pending_is (b ∷ pending) stops.Ended = refl
+pending_is (b ∷ pending) stops.Over = refl
 pending_is (b ∷ pending) stops.NoInput = refl
 pending_is (b ∷ pending) (stops.Pause z) = refl
 pending_is (b ∷ pending) stops.Memory = refl

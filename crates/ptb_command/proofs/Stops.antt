@@ -142,7 +142,7 @@ module _ {A B : Type 0} (refused : Refusal → Type 0) (R : Devices → Action A
 
   pub stops_before : (e : CommandStop) → Stops refused R n e → Stops refused Q n e
   stops_before (stops.Fault f) h = under n _ h
-  stops_before stops.Ended h = under n _ h
+  stops_before stops.Over h = under n _ h
   stops_before stops.NoInput h = record {
     left = and_then h.left next;
     comes = under n h.left h.comes;
@@ -181,7 +181,7 @@ module _ {A : Type 0} (refused others : Refusal → Type 0) (more : (r : Refusal
 
   pub stops_along : (e : CommandStop) → Stops refused R n e → Stops others Q n e
   stops_along (stops.Fault f) h = along n _ h
-  stops_along stops.Ended h = along n _ h
+  stops_along stops.Over h = along n _ h
   stops_along stops.NoInput h = record {
     left = h.left;
     comes = along n h.left h.comes;

@@ -126,7 +126,7 @@ module _ {A : Type 0} (refused : Refusal → Type 0) (R : Devices → (State →
 
 abbrev pub Stops : {A : Type 0} → (Refusal → Type 0) → (Devices → Action A → Type 0) → Devices → CommandStop → Type 0
 Stops refused R n (stops.Fault f) = R n (halt (Faults f))
-Stops refused R n stops.Ended = R n (halt (Ends endings.Stop))
+Stops refused R n stops.Over = R n (halt (Ends endings.Stop))
 Stops refused R n stops.NoInput = IsOutOfLines refused R n (Halts (Ends endings.NoInput))
 Stops refused R n (stops.Pause z) = AsksUnanswered refused R n action_state z
 Stops refused R n stops.Memory = DeviceFails refused R n action_state (Halts (Ends endings.NoInput)) errors.Memory
@@ -137,7 +137,7 @@ Stops refused R n stops.Unwritten = DeviceFails refused R n action_state (Halts 
 abbrev pub still_shows : {X : Type 0} → Result X CommandStop → Bool
 still_shows (Ok x) = true
 still_shows (Err (stops.Fault f)) = true
-still_shows (Err stops.Ended) = true
+still_shows (Err stops.Over) = true
 still_shows (Err stops.NoInput) = false
 still_shows (Err (stops.Pause z)) = true
 still_shows (Err stops.Memory) = false

@@ -37,7 +37,7 @@ with_pending pending o = record o { pending = pending }
 abbrev pub still_pending : List ℕ → CommandStop → List ℕ
 still_pending [] e = []
 still_pending (b ∷ pending) (stops.Fault f) = b ∷ pending
-still_pending (b ∷ pending) stops.Ended = b ∷ pending
+still_pending (b ∷ pending) stops.Over = b ∷ pending
 still_pending (b ∷ pending) stops.NoInput = []
 still_pending (b ∷ pending) (stops.Pause z) = b ∷ pending
 still_pending (b ∷ pending) stops.Memory = []

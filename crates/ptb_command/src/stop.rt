@@ -14,7 +14,7 @@ pub enum CommandStop {
     /// It has a fault, which is not reported yet.
     Fault(Fault),
     /// It ends the run, as STOP does.
-    Ended,
+    Over,
     /// No input line is left for it.
     NoInput,
     /// A question of it has no answer, though there is memory for one.

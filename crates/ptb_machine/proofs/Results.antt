@@ -40,7 +40,7 @@ result_stopped o number text done s r other is e =
     silent : (s : CommandStop) → ((f : Fault) → s ≡ stops.Fault f → ⊥) → r ≡ result_of_stop s
         → IsResultOf o o number text (Err s) r
     silent (stops.Fault f) other is = absurd (other f refl)
-    silent stops.Ended other is = record { is = is; same = refl }
+    silent stops.Over other is = record { is = is; same = refl }
     silent stops.NoInput other is = record { is = is; same = refl }
     silent (stops.Pause z) other is = record { is = is; same = refl }
     silent stops.Memory other is = record { is = is; same = refl }
@@ -95,7 +95,7 @@ result_facts : (o n : Trace) (number : ℕ) (text : List ℕ) (done : Result (Un
 result_facts o n number text (Ok x) r is = (ap is_over is.is, ap is_spent is.is)
 result_facts o n number text (Err (stops.Fault f)) r is =
     (ap is_over is.is ∙ reported_over f.kind is.shown, ap is_spent is.is ∙ reported_unspent f.kind is.shown)
-result_facts o n number text (Err stops.Ended) r is = (ap is_over is.is, ap is_spent is.is)
+result_facts o n number text (Err stops.Over) r is = (ap is_over is.is, ap is_spent is.is)
 result_facts o n number text (Err stops.NoInput) r is = (ap is_over is.is, ap is_spent is.is)
 result_facts o n number text (Err (stops.Pause pauses.Ended)) r is = (ap is_over is.is, ap is_spent is.is)
 result_facts o n number text (Err (stops.Pause (pauses.OutOfRange k))) r is = (ap is_over is.is, ap is_spent is.is)
@@ -140,7 +140,7 @@ result_missed refused P o n number text done r is h = by_result done is h
         → UnlessMissed refused P (miss_of done) → UnlessMissed refused P (step_miss r)
     by_result (Ok x) is h = is_so _ is.is h
     by_result (Err (stops.Fault f)) is h = is_so _ is.is (reported_unmissed refused P h f.kind is.shown)
-    by_result (Err stops.Ended) is h = is_so _ is.is h
+    by_result (Err stops.Over) is h = is_so _ is.is h
     by_result (Err stops.NoInput) is h = is_so _ is.is tt
     by_result (Err (stops.Pause pauses.Ended)) is h = is_so _ is.is h
     by_result (Err (stops.Pause (pauses.OutOfRange k))) is h = is_so _ is.is h

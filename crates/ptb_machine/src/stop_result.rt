@@ -18,7 +18,7 @@ fn stopped(stop: CommandStop) -> Result<Option<Ending>, RunFault>
 {
     match stop {
         CommandStop::Fault(fault) => Ok(Some(ending_of(fault.kind))),
-        CommandStop::Ended => Ok(Some(Ending::Stop)),
+        CommandStop::Over => Ok(Some(Ending::Stop)),
         CommandStop::NoInput => Ok(Some(Ending::NoInput)),
         CommandStop::Pause(Pause::Ended) => Ok(Some(Ending::NoAnswer)),
         CommandStop::Pause(Pause::OutOfRange(_)) => Ok(Some(Ending::BadAnswer)),

@@ -112,7 +112,7 @@ pub(crate) fn expect_command(
 // shown, and A.
 const COMMANDS: &[(&str, Doing, &[u8], i16)] = &[
     ("10 REM X;P.1", Ok((1, 0)), b"", 1),
-    ("10 STOP", Err(CommandStop::Ended), b"", 1),
+    ("10 STOP", Err(CommandStop::Over), b"", 1),
     ("10 STOP;", fault!(What, 4), b"", 1),
     ("10 GOTO 20", Ok((1, 0)), b"", 1),
     ("10 GOTO 30", fault!(How, 7), b"", 1),
