@@ -49,7 +49,7 @@ impl<'a> LineRequest<'a> {
         let (said, name): (&[u8], &[u8]) = match prompt {
             Prompt::Name(range) => (b"", bytes_in(text, range)),
             Prompt::Text(range) => (bytes_in(text, range), b""),
-            Prompt::Return => (b"\r", b""),
+            Prompt::CarriageReturn => (b"\r", b""),
         };
         LineRequest {
             said,

@@ -86,7 +86,7 @@ pub(crate) fn literal_bytes(text: &[u8], literal: Literal) -> &[u8]
 {
     match literal {
         Literal::Text(range) => bytes_in(text, range),
-        Literal::Return => b"\r",
+        Literal::CarriageReturn => b"\r",
     }
 }
 

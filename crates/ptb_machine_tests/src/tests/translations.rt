@@ -21,7 +21,7 @@ fn shape_of_set(destination: Destination) -> Shape {
 fn shape_of_literal(literal: Literal) -> Shape {
     match literal {
         Literal::Text(range) => ("text", range.from, range.to),
-        Literal::Return => ("return byte", 0, 0),
+        Literal::CarriageReturn => ("return byte", 0, 0),
     }
 }
 
@@ -29,7 +29,7 @@ fn shape_of_prompt(prompt: Prompt) -> Shape {
     match prompt {
         Prompt::Name(range) => ("ask", range.from, range.to),
         Prompt::Text(range) => ("ask string", range.from, range.to),
-        Prompt::Return => ("ask return", 0, 0),
+        Prompt::CarriageReturn => ("ask return", 0, 0),
     }
 }
 
