@@ -63,7 +63,7 @@ pub fn start_of(program: &Program, number: i16) -> Option<Location>
 {
     command_laws();
     statement_laws();
-    match program.index_of(number) {
+    match program.statement_index(number) {
         Some(statement) => Some(Location { statement, at: 0 }),
         None => None,
     }

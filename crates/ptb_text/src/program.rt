@@ -116,7 +116,7 @@ impl Program {
     }
 
     /// Which of the statements has this number, if one has: how many are before it.
-    pub fn index_of(&self, number: i16) -> Option<usize>
+    pub fn statement_index(&self, number: i16) -> Option<usize>
         ensures found { IfSome result (λ index.
             option_map (λ s. s.0) (statement_at self.now.lines index) ≡ Some number) }
         ensures absent { IsNone result → text_under self.now.lines number ≡ None }

@@ -247,7 +247,7 @@ impl Row<Program> for Ask {
     fn holds(&self, program: &Program) -> bool {
         match *self {
             Ask::Numbered(number, text, index) => {
-                program.line(number) == text && program.index_of(number) == index
+                program.line(number) == text && program.statement_index(number) == index
             }
             Ask::At(index, wanted) => program.get(index) == wanted,
             Ask::First(wanted) => program.first() == wanted,

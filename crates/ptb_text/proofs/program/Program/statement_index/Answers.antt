@@ -1,7 +1,7 @@
 -- What the look-up of a number gives.
 use Rattle.std.proofs.Common.{◌≡◌, pos, sym, ◌∙◌}
 use Rattle.ptb_text.proofs.Numbers.{is_whole, look_up-found, look_up-absent}
-use Rattle.ptb_text.proofs.program.Program.index_of.Goals as goal
+use Rattle.ptb_text.proofs.program.Program.statement_index.Goals as goal
 
 -- the number has no sign
 whole : (c : goal.After-ok-2) → c.args.number ≡ pos c.in_ok-number.number
