@@ -64,13 +64,13 @@ fn is_zero(values: &[i16]) -> bool
 }
 
 // Whether values are those in front, and zeros after them.
-fn is_front(front: &[i16], values: &[i16]) -> bool
+fn is_prefix(front: &[i16], values: &[i16]) -> bool
     requires { length front.now ≤ length values.now }
     ensures { (count : ℕ) → length values.now ≤ count
         → IsTrue result ↔ (with_zeros count front.now ≡ with_zeros count values.now) }
 {
-    let (begin, rest) = (&values[..front.len()], &values[front.len()..]);
-    begin == front && is_zero(rest)
+    let (start, rest) = (&values[..front.len()], &values[front.len()..]);
+    start == front && is_zero(rest)
 }
 
 // Whether values are the same as others, where those after the last one are 0.
@@ -79,9 +79,9 @@ fn is_same_with_zeros(values: &[i16], others: &[i16]) -> bool
         → IsTrue result ↔ (with_zeros count values.now ≡ with_zeros count others.now) }
 {
     if values.len() <= others.len() {
-        is_front(values, others)
+        is_prefix(values, others)
     } else {
-        is_front(others, values)
+        is_prefix(others, values)
     }
 }
 

@@ -6,7 +6,7 @@ use Rattle.std.proofs.lemmas.Bool.Decides.{Decides-int_eq}
 use Rattle.std.proofs.lemmas.List.{length-drop, take_rest}
 use Rattle.std.proofs.lemmas.Slice.Eq.{slice_eq-Decides}
 use Rattle.ptb_expr.proofs.SavedValues.{same_front, same_rest, same_values}
-use Rattle.ptb_expr.proofs.saved_store.is_front.Goals as goal
+use Rattle.ptb_expr.proofs.saved_store.is_prefix.Goals as goal
 
 pub returns-then-eq : goal.returns-then-eq
 returns-then-eq c = λ n within.
