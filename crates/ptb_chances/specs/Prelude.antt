@@ -10,7 +10,7 @@ pub use Rattle.ptb_command.specs.Configuration.{Configuration}
 pub use Rattle.ptb_machine.specs.Play.{play}
 pub use Rattle.ptb_machine.specs.Questions.{most_answers}
 pub use Rattle.ptb_command.specs.State.{State}
-pub use Rattle.ptb_machine.specs.Beginnings.{IsAtFirst}
+pub use Rattle.ptb_machine.specs.RunStart.{IsAtFirst}
 pub use Rattle.ptb_machine.specs.Steps.{FitsProgram, PlainTurns}
 pub use Rattle.ptb_numbers.specs.Decimals.{decimals}
 pub use Rattle.ptb_numbers.specs.Fractions.{lowest, Equals, plus}

@@ -9,7 +9,7 @@ pub use Rattle.ptb_answers.specs.Seeds.{generator_after, generator_of}
 pub use Rattle.ptb_answers.specs.declared.rules.Rules.{Rules}
 pub use Rattle.ptb_machine.specs.Play.{Finish, play}
 pub use Rattle.ptb_machine.specs.Questions.{most_answers}
-pub use Rattle.ptb_machine.specs.Beginnings.{IsAtFirst}
+pub use Rattle.ptb_machine.specs.RunStart.{IsAtFirst}
 pub use Rattle.ptb_text.specs.Device.{HasFailed, TakesSome}
 pub use Rattle.ptb_text.specs.Statements.{StoredProgram}
 pub use Rattle.ptb_text.specs.Streams.{WritesText, writes_of}

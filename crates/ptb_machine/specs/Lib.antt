@@ -17,7 +17,7 @@ pub mod TurnResults
 pub mod Steps
 pub mod CommandResults
 pub mod PlayResults
-pub mod Beginnings
+pub mod RunStart
 pub mod Runs
 pub mod RunEffects
 pub mod Streams

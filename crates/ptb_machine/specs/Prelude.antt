@@ -25,7 +25,7 @@ pub use Rattle.ptb_command.specs.declared.ending.Ending.TheVariants.{Limit}
 pub use Rattle.ptb_command.specs.declared.operation.Operation.{Operation}
 pub use Rattle.ptb_command.specs.declared.registers.Registers.{Registers}
 pub use Rattle.ptb_command.specs.declared.stack.Open.{Open}
-pub use Rattle.ptb_machine.specs.Beginnings.{IsAtFirst}
+pub use Rattle.ptb_machine.specs.RunStart.{IsAtFirst}
 pub use Rattle.ptb_machine.specs.CommandResults.{IsCodeOfNext, IsPerformed, MayPerform}
 pub use Rattle.ptb_machine.specs.EndingWords.{ending_word}
 pub use Rattle.ptb_machine.specs.Entries.{after_entry, IsNextAt, BeginsAt, EndsStatement, LeadsTo, Follows, place_of}

@@ -5,7 +5,7 @@ use Rattle.std.proofs.Common.{Ok, Err, IfOk, IfSome, refl, sym, subst, ◌∙◌
 use Rattle.ptb_text.specs.declared.fault.LoadFault.{LoadFault}
 use Rattle.ptb_text.specs.declared.fault.LoadFault.TheVariants as loads
 use Rattle.ptb_text.specs.Device.{GivesAtMost, GivesExactly, HasFailed}
-use Rattle.ptb_text.specs.Entry.{IsLineFault}
+use Rattle.ptb_text.specs.EnteredLines.{IsLineFault}
 use Rattle.ptb_text.specs.Lines.{input_lines}
 use Rattle.ptb_text.specs.ProgramTexts.{IsLoaded, IsRefusedAt}
 use Rattle.ptb_text.specs.Statements.{Statements, StoredProgram, program_limit}

@@ -9,7 +9,7 @@ use Rattle.std.proofs.KnownBytes.{Appends-nil, Consumes-nil}
 use Rattle.ptb_text.specs.declared.fault.LoadFault.{LoadFault}
 use Rattle.ptb_text.specs.declared.fault.LoadFault.TheVariants as loads
 use Rattle.ptb_text.specs.Device.{GivesExactly, TakesSome}
-use Rattle.ptb_text.specs.Entry.{IsLineFault}
+use Rattle.ptb_text.specs.EnteredLines.{IsLineFault}
 use Rattle.ptb_text.specs.ProgramTexts.{IsLoaded, IsRefusedAt}
 use Rattle.ptb_text.specs.Statements.{Statements, StoredProgram, program_limit}
 use Rattle.ptb_text.specs.Lines.{input_lines}

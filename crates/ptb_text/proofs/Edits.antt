@@ -16,8 +16,8 @@ use Rattle.ptb_text.specs.declared.fault.LoadFault.{LoadFault}
 use Rattle.ptb_text.specs.declared.fault.LoadFault.TheVariants.{Full, Memory}
 use Rattle.ptb_text.specs.Statements.{Statements, StoredProgram, cost, if_room, is_program}
 use Rattle.ptb_text.specs.Statements.{is_statement, with_text, without_number}
-use Rattle.ptb_text.specs.Entry.{Enters}
-use Rattle.ptb_text.specs.Places.{IsAt, IsGapFor}
+use Rattle.ptb_text.specs.EnteredLines.{Enters}
+use Rattle.ptb_text.specs.NumberOrder.{IsAt, IsGapFor}
 use Rattle.ptb_text.proofs.Entries.{with_text-place, with_text-gap, without_number-place}
 use Rattle.ptb_text.proofs.SoundPrograms.{both_true}
 use Rattle.ptb_text.proofs.Searches.{same_from_equal}

@@ -11,7 +11,7 @@ use Rattle.std.proofs.lemmas.Result.{err_from_is_err_and}
 use Rattle.std.specs.Result.{IsErrAnd, is_ok}
 use Rattle.ptb_text.specs.declared.fault.LoadFault.{LoadFault}
 use Rattle.ptb_text.specs.declared.fault.LoadFault.TheVariants.{Memory, Read, TooLong}
-use Rattle.ptb_text.specs.Entry.{IsLineFault}
+use Rattle.ptb_text.specs.EnteredLines.{IsLineFault}
 use Rattle.ptb_text.specs.Lines.{lines, program_lines, tab_as_space}
 use Rattle.ptb_text.specs.ProgramTexts.{AcceptsLines, FailsToLoad, HasTextAt, IsLoaded, IsRefusedAt, Loads}
 use Rattle.ptb_text.specs.ProgramTexts.{ReadsProgram, StoresTextAt}

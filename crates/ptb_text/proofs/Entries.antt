@@ -5,7 +5,7 @@ use Rattle.std.proofs.Common.{slice_get, refl, arith}
 use Rattle.std.specs.List.{insert, remove}
 use Rattle.std.proofs.lemmas.Bool.Decides.{nat_tests}
 use Rattle.ptb_text.specs.Statements.{Statements, text_at, with_text, without_number, number_after}
-use Rattle.ptb_text.specs.Places.{IsAt, IsGapFor}
+use Rattle.ptb_text.specs.NumberOrder.{IsAt, IsGapFor}
 
 -- in the tail, a place is one lower
 IsAt-tail : (s : ℕ × List ℕ) (p : Statements) (n i : ℕ) → IsAt (s ∷ p) n (suc i) → IsAt p n i

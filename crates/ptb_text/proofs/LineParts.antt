@@ -17,7 +17,7 @@ use Rattle.ptb_text.specs.Statements.{HasText, Statements, StoredProgram, after_
 use Rattle.ptb_text.specs.Statements.{after_statement, unless_bad_byte, trim_start, with_text, cost}
 use Rattle.ptb_text.specs.Statements.{if_room, is_statement, text_limit}
 use Rattle.ptb_text.specs.Digits.{number_limit, digits_value, is_digit, is_blank}
-use Rattle.ptb_text.specs.Entry.{Enters, EntersNothing, IsLineFault, IsRefused, IsNumbered}
+use Rattle.ptb_text.specs.EnteredLines.{Enters, EntersNothing, IsLineFault, IsRefused, IsNumbered}
 use Rattle.ptb_text.specs.declared.word.Number.{Number}
 use Rattle.ptb_text.specs.declared.word.Number.TheVariants.{Absent, Value, TooBig}
 use Rattle.ptb_text.specs.Words.{past_blanks, number_at, small_number}

@@ -19,7 +19,7 @@ use Rattle.std.proofs.lemmas.List.Sums.{fold-append, sum_by-append, sum_by-cons,
 use Rattle.ptb_text.specs.declared.fault.LoadFault.{LoadFault}
 use Rattle.ptb_text.specs.Lines.{pieces, onto_first, program_lines, is_printable, tab_as_space}
 use Rattle.ptb_text.specs.ProgramTexts.{GivesProgram}
-use Rattle.ptb_text.specs.Places.{IsGapFor, statement_number}
+use Rattle.ptb_text.specs.NumberOrder.{IsGapFor, statement_number}
 use Rattle.ptb_text.specs.Statements.{Statements, after_line, after_lines, after_statement, cost}
 use Rattle.ptb_text.specs.Statements.{is_program, is_statement, line_of, listing, text_limit}
 use Rattle.ptb_text.specs.Statements.{trim_start, with_text, IsText}

@@ -3,7 +3,7 @@
 use Rattle.std.proofs.Common.{◌≡◌, ℕ, zero, suc, ◌<◌, List, [], ◌∷◌, length, get_or, Some}
 use Rattle.std.proofs.Common.{slice_get, add-one, ap, subst, ◌∙◌, arith}
 use Rattle.ptb_text.specs.Statements.{Statements, text_at}
-use Rattle.ptb_text.specs.Places.{IsAt, StatementLaws, statement_number}
+use Rattle.ptb_text.specs.NumberOrder.{IsAt, StatementLaws, statement_number}
 use Rattle.ptb_text.proofs.Entries.{number_after-place}
 use Rattle.ptb_text.proofs.SoundPrograms.{both_true, IsAt-from_rising, text_at-number}
 

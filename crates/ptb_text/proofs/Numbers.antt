@@ -10,7 +10,7 @@ use mir.Val.{to_z, of_z, SFits}
 use Rattle.std.proofs.lemmas.Int.{to_z-of_z}
 use Rattle.std.proofs.lemmas.Option.{slice_get-get_or}
 use Rattle.ptb_text.specs.Statements.{Statements, text_under, number_above}
-use Rattle.ptb_text.specs.Places.{IsGapFor, IsAt, statement_at}
+use Rattle.ptb_text.specs.NumberOrder.{IsGapFor, IsAt, statement_at}
 use Rattle.ptb_text.proofs.Entries.{text_at-gap, number_after-place, number_after-gap}
 
 converted : {E : Type 0} (r : Result ℕ E) (n : ℤ) (m : ℕ) → OkIff r (FitsUnsignedBits 16 n) (nat_abs n)

@@ -17,7 +17,7 @@ use Rattle.std.proofs.lemmas.Grind.{flat_map-append}
 use Rattle.std.proofs.Math.Seq.{take-append_seam, drop-append_seam}
 use Rattle.ptb_text.specs.declared.program.Statement.{Statement}
 use Rattle.ptb_text.specs.Statements.{Statements, cost}
-use Rattle.ptb_text.specs.Places.{statement_number}
+use Rattle.ptb_text.specs.NumberOrder.{statement_number}
 use Rattle.ptb_text.specs.Program.{text_in, lengths, texts_length, laid_out}
 
 -- a statement as a line shows it

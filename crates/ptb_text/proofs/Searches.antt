@@ -12,7 +12,7 @@ use Rattle.std.proofs.lemmas.List.{get_or-map, length-map}
 use Rattle.std.proofs.lemmas.Option.{slice_get-get_or, get_or_from_slice_get}
 use Rattle.ptb_text.specs.declared.program.Statement.{Statement}
 use Rattle.ptb_text.specs.Statements.{Statements}
-use Rattle.ptb_text.specs.Places.{statement_number, IsAt, IsGapFor}
+use Rattle.ptb_text.specs.NumberOrder.{statement_number, IsAt, IsGapFor}
 use Rattle.ptb_text.proofs.SoundPrograms.{rising}
 use Rattle.ptb_text.proofs.Pool.{shown}
 

@@ -9,7 +9,7 @@ use Rattle.std.specs.FinMap.Entries.{below_all}
 use Rattle.std.proofs.lemmas.Bool.{ltb-true, leb-true, eqb-true}
 use Rattle.std.proofs.lemmas.Bool.Decides.{nat_tests}
 use Rattle.ptb_text.specs.Statements.{Statements, text_at, is_statement, is_program, IsText}
-use Rattle.ptb_text.specs.Places.{statement_number, IsAt}
+use Rattle.ptb_text.specs.NumberOrder.{statement_number, IsAt}
 use Rattle.ptb_text.proofs.Entries.{text_at-place}
 
 pub both_true : (a b : Bool) → (a && b) ≡ true → (a ≡ true) × (b ≡ true)

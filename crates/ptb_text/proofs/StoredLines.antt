@@ -8,7 +8,7 @@ use Rattle.ptb_text.specs.declared.program.Statement.{Statement}
 use Rattle.ptb_text.specs.declared.program.Program.TheInside.{Inside}
 use Rattle.ptb_text.specs.Statements.{Statements, StoredProgram, IsMemorySize, cost, is_program}
 use Rattle.ptb_text.specs.Program.{stored_program, text_in, texts_length, laid_out, IsKept}
-use Rattle.ptb_text.specs.Places.{statement_number}
+use Rattle.ptb_text.specs.NumberOrder.{statement_number}
 use Rattle.ptb_text.proofs.Pool.{shown, entries, texts, entries-from_laid_out, texts-from_laid_out}
 use Rattle.ptb_text.proofs.Pool.{shown-entries, laid_out-entries, lengths-entries, length-texts}
 use Rattle.ptb_text.proofs.Pool.{cost-texts, IsEntry, IsEntry-read, entries-insert, entries-set}

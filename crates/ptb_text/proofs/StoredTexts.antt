@@ -9,8 +9,8 @@ use Rattle.std.specs.Vec.{with_item, with_items}
 use Rattle.ptb_text.specs.declared.fault.LoadFault.TheVariants.{Full, Memory}
 use Rattle.ptb_text.specs.declared.program.Statement.{Statement}
 use Rattle.ptb_text.specs.declared.program.Program.TheInside.{Inside}
-use Rattle.ptb_text.specs.Entry.{Enters}
-use Rattle.ptb_text.specs.Places.{IsAt, IsGapFor}
+use Rattle.ptb_text.specs.EnteredLines.{Enters}
+use Rattle.ptb_text.specs.NumberOrder.{IsAt, IsGapFor}
 use Rattle.ptb_text.specs.Program.{stored_program, laid_out, lengths, texts_length, IsKept}
 use Rattle.ptb_text.specs.Statements.{StoredProgram, IsSound, cost, if_room, is_statement, with_text}
 use Rattle.ptb_text.proofs.Edits.{cost-with_text_gap, cost-with_text_place, is_program-with_text}

@@ -5,10 +5,10 @@ pub mod Words
 pub mod WordSearch
 pub mod FoundParts
 pub mod Device
-pub mod Entry
+pub mod EnteredLines
 pub mod Lines
 pub mod ProgramTexts
-pub mod Places
+pub mod NumberOrder
 pub mod Program
 pub mod Statements
 pub mod Streams

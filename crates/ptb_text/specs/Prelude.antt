@@ -5,11 +5,11 @@ pub use Rattle.ptb_text.specs.CursorState.{CursorState, bytes_left}
 pub use Rattle.ptb_text.specs.Device.{CountsFaults, HasFailed, TakesSome, TakesSurely, CountsBytes, DeviceTakes}
 pub use Rattle.ptb_text.specs.Device.{IsReliableDevice, device_inner, failure_count, given_count}
 pub use Rattle.ptb_text.specs.Digits.{is_digit, digits_value, number_limit}
-pub use Rattle.ptb_text.specs.Entry.{IsLineFault, Enters}
+pub use Rattle.ptb_text.specs.EnteredLines.{IsLineFault, Enters}
 pub use Rattle.ptb_text.specs.FoundParts.{past_byte, IsNextToken}
 pub use Rattle.ptb_text.specs.Lines.{lines, tab_as_space}
 pub use Rattle.ptb_text.specs.ProgramTexts.{FailsToLoad, HasTextAt, Loads, ReadsProgram}
-pub use Rattle.ptb_text.specs.Places.{IsAt, IsGapFor, statement_at}
+pub use Rattle.ptb_text.specs.NumberOrder.{IsAt, IsGapFor, statement_at}
 pub use Rattle.ptb_text.specs.Program.{laid_out, lengths, texts_length}
 pub use Rattle.ptb_text.specs.Statements.{IsMemorySize, after_lines, program_limit, HasText, IsSound, IsText}
 pub use Rattle.ptb_text.specs.Statements.{after_line, cost, first_number, if_room, is_statement, number_above, size_of}

@@ -13,7 +13,7 @@ use Rattle.std.specs.Prelude.{◌≡◌, ℕ, ◌-◌, ◌<◌, ◌≤◌, List,
 use Rattle.std.specs.Prelude.{Result, Ok, Err, IsOk, IfErr, IfOk, IfSome, IsErrAnd}
 use Rattle.ptb_text.specs.declared.fault.LoadFault.{LoadFault}
 use Rattle.ptb_text.specs.declared.fault.LoadFault.TheVariants.{Memory, Read, TooLong}
-use Rattle.ptb_text.specs.Entry.{IsLineFault}
+use Rattle.ptb_text.specs.EnteredLines.{IsLineFault}
 use Rattle.ptb_text.specs.Lines.{program_lines}
 use Rattle.ptb_text.specs.Statements.{HasText, Statements, StoredProgram, after_lines, program, program_limit}
 use Rattle.ptb_text.specs.Streams.{Reads, ReadsUpTo}

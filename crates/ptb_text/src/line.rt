@@ -2,7 +2,7 @@
 
 ghost use Rattle.std.specs.Prelude.{◌≡◌, ◌<◌, IfSome, MatchOption, MatchResult};
 ghost use Rattle.std.specs.Prelude.{length, not, position};
-ghost use Rattle.ptb_text.specs.Entry.{EntersNothing, IsNumbered, IsRefused};
+ghost use Rattle.ptb_text.specs.EnteredLines.{EntersNothing, IsNumbered, IsRefused};
 ghost use Rattle.ptb_text.specs.Lines.{is_printable};
 
 use crate::LoadFault;

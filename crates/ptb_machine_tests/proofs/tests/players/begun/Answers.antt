@@ -1,6 +1,6 @@
 -- This file answers that a machine at the beginning of a run fits the program.
 use Rattle.std.proofs.Common.{rules}
-use Rattle.ptb_machine.specs.Beginnings.{IsAtFirst}
+use Rattle.ptb_machine.specs.RunStart.{IsAtFirst}
 use Rattle.ptb_machine.proofs.PublicLemmas.{fits_at_first}
 use Rattle.ptb_machine_tests.proofs.tests.players.begun.Goals as goal
 

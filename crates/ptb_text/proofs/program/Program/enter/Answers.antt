@@ -1,6 +1,6 @@
 -- This file answers what is left to prove of `Program::enter`.
 use Rattle.std.proofs.Common.{rules, ◌≤◌, length}
-use Rattle.ptb_text.specs.Entry.{IsNumbered}
+use Rattle.ptb_text.specs.EnteredLines.{IsNumbered}
 use Rattle.ptb_text.proofs.LineParts.{found_is, line_refused, line_statement, line_stored}
 use Rattle.ptb_text.proofs.program.Program.enter.Goals as goal
 

@@ -4,7 +4,7 @@ use Rattle.std.specs.FinMap.{is_sorted}
 use Rattle.std.specs.Ordering.{nat_cmp}
 use Rattle.std.proofs.lemmas.List.Sorted.{answers_always}
 use Rattle.ptb_text.specs.declared.program.Statement.{Statement}
-use Rattle.ptb_text.specs.Places.{IsGapFor}
+use Rattle.ptb_text.specs.NumberOrder.{IsGapFor}
 use Rattle.ptb_text.proofs.Pool.{shown}
 use Rattle.ptb_text.proofs.Searches.{IsSearched, searched, IsGapFor-end}
 use Rattle.ptb_text.proofs.SoundPrograms.{both_true}
