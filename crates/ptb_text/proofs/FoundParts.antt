@@ -19,7 +19,7 @@ use Rattle.ptb_text.specs.declared.word.Word.{Word}
 use Rattle.ptb_text.specs.declared.word.Number.{Number}
 use Rattle.ptb_text.specs.declared.word.Number.TheVariants.{Absent, Value, TooBig}
 use Rattle.ptb_text.specs.Digits.{is_digit, digits_value}
-use Rattle.ptb_text.specs.Words.{past_blanks, next_byte_at, Entry, words, abbreviations, spellings}
+use Rattle.ptb_text.specs.Words.{past_blanks, next_byte_at, Spelling, words, abbreviations, spellings}
 use Rattle.ptb_text.specs.Words.{spelling_in_front, first_word, word_at, begins_word, IsWordOf}
 use Rattle.ptb_text.specs.Words.{bytes_at, is_letter, letter_there, letter_at, small_number}
 use Rattle.ptb_text.specs.Words.{is_number, number_at, Quotation, NoQuote, QuotedText, is_quote}
@@ -173,17 +173,17 @@ spelling_has letters rest s some e =
     find_has HasByte (λ s. starts_with nat_eq rest s) (spellings letters) s (some, abbreviations_have_bytes letters) e
 
 -- an entry has a letter, and a word that the table has
-abbrev IsEntryOf : Table → Entry → Type 0
-IsEntryOf table w = HasByte w.1 × IsWordOf table w.0
+abbrev IsSpellingOf : Table → Spelling → Type 0
+IsSpellingOf table w = HasByte w.1 × IsWordOf table w.0
 
-words_are : (table : Table) → AllByRecursion (IsEntryOf table) (words table)
+words_are : (table : Table) → AllByRecursion (IsSpellingOf table) (words table)
 words_are Commands = search rules
 words_are Functions = search rules
 words_are To = search rules
 words_are Step = search rules
 
-first_word_ahead : (table : Table) (ws : List Entry) (t : List ℕ) (i b : ℕ) (w : Word) (j : ℕ) → i ≤ b
-    → AllByRecursion (IsEntryOf table) ws → first_word ws t b ≡ Some (w, j) → LiesAhead t i j × IsWordOf table w
+first_word_ahead : (table : Table) (ws : List Spelling) (t : List ℕ) (i b : ℕ) (w : Word) (j : ℕ) → i ≤ b
+    → AllByRecursion (IsSpellingOf table) ws → first_word ws t b ≡ Some (w, j) → LiesAhead t i j × IsWordOf table w
 first_word_ahead table [] t i b w j h all e = absurd cc
 first_word_ahead table (x ∷ ws) t i b w j h all e =
     go (spelling_in_front x.1 (drop b t)) refl (λ e. first_word_ahead table ws t i b w j h all.1 e) e

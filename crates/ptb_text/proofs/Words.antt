@@ -13,7 +13,7 @@ use Rattle.ptb_text.specs.declared.word.Table.{Table}
 use Rattle.ptb_text.specs.declared.word.Table.TheVariants.{Commands, Functions, To, Step}
 use Rattle.ptb_text.specs.declared.word.Word.{Word}
 use Rattle.ptb_text.specs.WordSearch.{FindsWord}
-use Rattle.ptb_text.specs.Words.{past_blanks, Entry, words, abbreviations, spellings}
+use Rattle.ptb_text.specs.Words.{past_blanks, Spelling, words, abbreviations, spellings}
 use Rattle.ptb_text.specs.Words.{spelling_in_front, first_word, word_at, begins_word}
 
 -- ---- spellings, one letter after the other
@@ -167,10 +167,10 @@ spelt_end started w k p s h = rw (drop_all k w h) refl
 -- ---- the first byte
 
 -- whether a word begins with this byte, and whether it has a letter
-abbrev pub begins : ℕ → Entry → Bool
+abbrev pub begins : ℕ → Spelling → Bool
 begins b w = starts_with nat_eq w.1 (b ∷ [])
 
-abbrev pub has_letter : Entry → Bool
+abbrev pub has_letter : Spelling → Bool
 has_letter w = nat_lt 0 (length w.1)
 
 spelling_other : (c b : ℕ) (cs s : List ℕ) → (b ≡ c → ⊥) → spelling_in_front (c ∷ cs) (b ∷ s) ≡ None
@@ -182,7 +182,7 @@ unfolding spelling_in_front
 spelling_end c cs = abbreviations_end c cs
 
 -- only the words that begin with the byte there are to be tried
-pub first_word_begins : (ws : List Entry) (t : List ℕ) (i b : ℕ) (s : List ℕ) → list_all has_letter ws ≡ true
+pub first_word_begins : (ws : List Spelling) (t : List ℕ) (i b : ℕ) (s : List ℕ) → list_all has_letter ws ≡ true
     → drop i t ≡ b ∷ s → first_word ws t i ≡ first_word (filter (begins b) ws) t i
 first_word_begins [] t i b s h e = refl
 first_word_begins ((k, []) ∷ ws) t i b s h e = absurd (false≢true h)
@@ -196,7 +196,7 @@ first_word_begins ((k, c ∷ cs) ∷ ws) t i b s h e =
     ]
 
 -- at the end there is no word
-pub first_word_end : (ws : List Entry) (t : List ℕ) (i : ℕ) → list_all has_letter ws ≡ true → drop i t ≡ []
+pub first_word_end : (ws : List Spelling) (t : List ℕ) (i : ℕ) → list_all has_letter ws ≡ true → drop i t ≡ []
     → first_word ws t i ≡ None
 first_word_end [] t i h e = refl
 first_word_end ((k, []) ∷ ws) t i h e = absurd (false≢true h)
@@ -220,7 +220,7 @@ finds_begins table b t place r h e found = record {
   ahead = found.ahead;
 }
 
-filter_none : (b : ℕ) (ws : List Entry) → list_any (begins b) ws ≡ false → filter (begins b) ws ≡ []
+filter_none : (b : ℕ) (ws : List Spelling) → list_any (begins b) ws ≡ false → filter (begins b) ws ≡ []
 filter_none b [] h = refl
 filter_none b (w ∷ ws) h =
     let parts = or_parts (begins b w) (list_any (begins b) ws) h in
@@ -242,7 +242,7 @@ or_first None p x e = absurd cc
 or_first (Some y) p x e = e
 
 -- the second of two words is tried where the first isn't found
-finds_second : (v w : Entry) (t : List ℕ) (place : ℕ) (r s : Option (Word × ℕ)) → FindsWord (v ∷ []) t place r
+finds_second : (v w : Spelling) (t : List ℕ) (place : ℕ) (r s : Option (Word × ℕ)) → FindsWord (v ∷ []) t place r
     → (r ≡ None → FindsWord (w ∷ []) t place s) → ((x : Word × ℕ) → r ≡ Some x → s ≡ Some x)
     → FindsWord (v ∷ w ∷ []) t place s
 finds_second v w t place None s one two same = record {
@@ -255,7 +255,7 @@ finds_second v w t place (Some x) s one two same =
     subst (λ r. FindsWord (v ∷ w ∷ []) t place r) (sym (same x refl)) found
 
 -- where two words of a table begin with a byte, the second is tried where the first isn't found
-pub begins_either : (table : Table) (b : ℕ) (v w : Entry) (t : List ℕ) (place : ℕ) (r s : Option (Word × ℕ))
+pub begins_either : (table : Table) (b : ℕ) (v w : Spelling) (t : List ℕ) (place : ℕ) (r s : Option (Word × ℕ))
     → filter (begins b) (words table) ≡ v ∷ w ∷ [] → place < length t → get_or t place 0 ≡ b
     → FindsWord (v ∷ []) t place r
     → (r ≡ None → FindsWord (w ∷ []) t place s) → ((x : Word × ℕ) → r ≡ Some x → s ≡ Some x)
@@ -282,7 +282,7 @@ abbrev pub continues : ℕ → Bool
 continues b = nat_le 65 b || (b == 46)
 
 -- whether a word has such a letter there
-abbrev is_continued : Entry → Bool
+abbrev is_continued : Spelling → Bool
 is_continued (k, []) = false
 is_continued (k, c ∷ []) = false
 is_continued (k, c ∷ d ∷ cs) = nat_le 65 d && has_no_period (c ∷ d ∷ cs)
@@ -313,7 +313,7 @@ spelt_other c d cs a b s n m = rw (ne_eqb b d n, ne_eqb b 46 m)
     (elim (eqb a c) as (λ v. ◌≡◌ {A = Option ℕ} (cond v None None) None) [ true ↦ refl | false ↦ refl ])
 
 -- none is spelled there
-first_word_none : (ws : List Entry) (t : List ℕ) (i : ℕ) → list_all is_continued ws ≡ true
+first_word_none : (ws : List Spelling) (t : List ℕ) (i : ℕ) → list_all is_continued ws ≡ true
     → ((c d : ℕ) (cs : List ℕ) → nat_le 65 d ≡ true → spelt false (c ∷ d ∷ cs) 0 (drop i t) ≡ None)
     → first_word ws t i ≡ None
 first_word_none [] t i h f = refl

@@ -40,11 +40,11 @@ is_over t i = nat_le (length t) (past_blanks t i)
 -- ---- words
 
 -- a word and its letters
-abbrev pub Entry : Type 0
-Entry = Word × List ℕ
+abbrev pub Spelling : Type 0
+Spelling = Word × List ℕ
 
 -- the words of a table, in the order in which they are tried
-abbrev pub words : Table → List Entry
+abbrev pub words : Table → List Spelling
 words Commands =
     (NextKw, codes "NEXT") ∷ (LetKw, codes "LET") ∷ (IfKw, codes "IF") ∷ (GotoKw, codes "GOTO")
     ∷ (GosubKw, codes "GOSUB")
@@ -70,7 +70,7 @@ unfoldable pub spelling_in_front : List ℕ → List ℕ → Option (List ℕ)
 spelling_in_front letters rest = find (λ s. starts_with nat_eq rest s) (spellings letters)
 
 -- the first of these words that is at place b
-abbrev pub first_word : List Entry → List ℕ → ℕ → Option (Word × ℕ)
+abbrev pub first_word : List Spelling → List ℕ → ℕ → Option (Word × ℕ)
 first_word [] t b = None
 first_word (w ∷ ws) t b =
     option_or (option_map (λ s. (w.0, past_blanks t (b + length s))) (spelling_in_front w.1 (drop b t)))
