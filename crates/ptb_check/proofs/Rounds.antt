@@ -8,7 +8,7 @@ use Rattle.ptb_text.specs.Words.{is_over}
 use Rattle.ptb_text.specs.Statements.{Statements}
 use Rattle.ptb_expr.specs.Reading.{Reading, Whole, Malformed}
 use Rattle.ptb_command.specs.Commands.{Part, Command, after_command, command_and, command_at}
-use Rattle.ptb_command.specs.Commands.{command_round, command_unless, commands_from, next_begin}
+use Rattle.ptb_command.specs.Commands.{command_round, command_unless, commands_from, next_start}
 use Rattle.ptb_command.specs.CommandLaws.{CommandLaws}
 use Rattle.ptb_command.specs.Places.{commands_after, next_place}
 use Rattle.ptb_command.specs.Locations.{IsLineAt}
@@ -28,7 +28,7 @@ after_this t c e None = refl
 
 after_parts : (t : List ℕ) (c : Command) (parts : Reading (List Part))
     → commands_after t (after_command t c parts) ≡ c ∷ left_at t (next_place (after_command t c parts))
-after_parts t c (Whole parts e) = after_this t c e (next_begin c.kind t e)
+after_parts t c (Whole parts e) = after_this t c e (next_start c.kind t e)
 after_parts t c (Malformed parts) = refl
 
 round_here : (t : List ℕ) (i : ℕ) (over : Bool) → is_over t i ≡ over → command_round t i ≡ command_unless t i over

@@ -6,7 +6,7 @@ use Rattle.ptb_command.specs.Commands.{command_round}
 use Rattle.ptb_command.proofs.Sequences.{enough_rounds, items_by_round}
 use Rattle.ptb_command.proofs.CommandOrder.{let_advances, input_advances, print_advances, commands_advance, parts_end}
 use Rattle.ptb_command.proofs.Places.{commands_by_round, at_first, at_next, at_last, at_there}
-use Rattle.ptb_command.proofs.Places.{at_none, begins_at, begin_there}
+use Rattle.ptb_command.proofs.Places.{at_none, begins_at, start_there}
 use Rattle.ptb_command.specs.CommandLaws.{CommandLaws}
 
 pub command_laws : FindingLaws → SpellingLaws → CommandLaws
@@ -26,5 +26,5 @@ command_laws finding spelling = record {
   at_there = at_there finding spelling;
   at_none = at_none finding spelling;
   begins_at = begins_at finding spelling;
-  begins = begin_there finding spelling;
+  begins = start_there finding spelling;
 }

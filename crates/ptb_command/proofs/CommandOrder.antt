@@ -23,7 +23,7 @@ use Rattle.ptb_command.specs.Commands.{item_round, print_parts_if, print_parts, 
 use Rattle.ptb_command.specs.Commands.{string_item, input_item_by, input_item, step_by, step_parts}
 use Rattle.ptb_command.specs.Commands.{limit_by, limit_parts, first_parts, for_by, for_parts}
 use Rattle.ptb_command.specs.Commands.{next_by, next_parts, parts_of, command_of, command_by}
-use Rattle.ptb_command.specs.Commands.{command_at, next_begin, command_and, after_command}
+use Rattle.ptb_command.specs.Commands.{command_at, next_start, command_and, after_command}
 use Rattle.ptb_command.specs.Commands.{command_unless, command_round}
 
 -- ---- places
@@ -334,7 +334,7 @@ module _ (finding : FindingLaws) (spelling : SpellingLaws) (t : List ℕ) where
   -- ---- commands
 
   -- a command with a word takes a byte, and so does what is between two commands
-  next_ahead : (w : Word) (i e j : ℕ) → LiesAhead t i e → next_begin w t e ≡ Some j → LiesAhead t i j
+  next_ahead : (w : Word) (i e j : ℕ) → LiesAhead t i e → next_start w t e ≡ Some j → LiesAhead t i j
   next_ahead RemKw i e j a h = absurd cc
   next_ahead GotoKw i e j a h = absurd cc
   next_ahead ReturnKw i e j a h = absurd cc
@@ -343,10 +343,10 @@ module _ (finding : FindingLaws) (spelling : SpellingLaws) (t : List ℕ) where
   next_ahead _ i e j a h = further t i e j a (finding.token 59 t e j h)
 
   after_command_on : (c : Command) (i : ℕ) (r : Reading (List Part)) → EndsOn t i r
-      → ((parts : List Part) (e j : ℕ) → r ≡ Whole parts e → next_begin c.kind t e ≡ Some j → LiesAhead t i j)
+      → ((parts : List Part) (e j : ℕ) → r ≡ Whole parts e → next_start c.kind t e ≡ Some j → LiesAhead t i j)
       → RoundOn t i (after_command t c r)
   after_command_on c i (Malformed parts) a next = tt
-  after_command_on c i (Whole parts e) a next = by_begin (next_begin c.kind t e) (λ j h. next parts e j refl h)
+  after_command_on c i (Whole parts e) a next = by_begin (next_start c.kind t e) (λ j h. next parts e j refl h)
     where
       by_begin : (o : Option ℕ) → ((j : ℕ) → o ≡ Some j → LiesAhead t i j) → RoundOn t i (command_and c e o)
       by_begin (Some j) next = next j refl

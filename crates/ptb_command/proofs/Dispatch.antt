@@ -72,7 +72,7 @@ pub begun_next : (p : Statements) (o : Option Place) (here : Location) (t : List
 begun_next p o here t word i n f = record {
   statement = n.is.statement;
   text = n.text;
-  begin = here.at;
+  start = here.at;
   at = subst (λ (x : List ℕ). IsSamePlace x n.place.index here.at) n.text n.is.at;
   more = n.more;
   command = f.command;

@@ -7,7 +7,7 @@ use Rattle.ptb_text.specs.declared.word.Word.{Word}
 use Rattle.ptb_text.specs.Statements.{Statements}
 use Rattle.ptb_text.specs.Words.{is_over, token_at}
 use Rattle.ptb_expr.specs.Evaluation.{IsWhole}
-use Rattle.ptb_command.specs.Commands.{Command, command_of, parts_of, next_begin, command_and}
+use Rattle.ptb_command.specs.Commands.{Command, command_of, parts_of, next_start, command_and}
 use Rattle.ptb_command.specs.Commands.{after_command, command_unless, command_round}
 use Rattle.ptb_command.specs.State.{Place, next_index}
 use Rattle.ptb_command.specs.Places.{IsSamePlace}
@@ -18,7 +18,7 @@ use Rattle.ptb_command.specs.Representation.{Begun}
 
 -- the words of the commands after which `;` begins the next one
 pub record ChecksEnd (word : Word) : Type 0 where
-  pub next : (t : List ℕ) (e : ℕ) → next_begin word t e ≡ token_at 59 t e
+  pub next : (t : List ℕ) (e : ℕ) → next_start word t e ≡ token_at 59 t e
 
 -- ---- rounds of commands
 
@@ -26,30 +26,30 @@ module _ (laws : CommandLaws) (p : Statements) (q : Place) (k : ℕ) (t : List �
     (begun : Begun p q k t word i) where
   -- the round that reads the command
   pub begun_round : (e : ℕ) → IsWhole (parts_of word t i) e
-      → command_round t begun.begin ≡ command_and (command_of word (parts_of word t i)) e (next_begin word t e)
+      → command_round t begun.start ≡ command_and (command_of word (parts_of word t i)) e (next_start word t e)
   unfolding command_round
   begun_round e whole =
-      ap (command_unless t begun.begin) begun.more
+      ap (command_unless t begun.start) begun.more
       ∙ ap (λ (c : Command). after_command t c c.parts) begun.command
       ∙ ap (after_command t (command_of word (parts_of word t i))) whole
 
   -- another command follows it
-  pub next_there : (e j : ℕ) → IsWhole (parts_of word t i) e → next_begin word t e ≡ Some j
+  pub next_there : (e j : ℕ) → IsWhole (parts_of word t i) e → next_start word t e ≡ Some j
       → PlaceIs p (next_index q) (record { statement = k; at = j })
   next_there e j whole n = record {
     statement = begun.statement;
     at = subst (λ (x : List ℕ). IsSamePlace x (q.index + 1) j) (sym begun.text)
-        (laws.at_next t q.index begun.begin j _ begun.at
+        (laws.at_next t q.index begun.start j _ begun.at
         (begun_round e whole ∙ ap (command_and (command_of word (parts_of word t i)) e) n));
   }
 
   -- it is the last one
-  pub none_there : (e : ℕ) → IsWhole (parts_of word t i) e → next_begin word t e ≡ None → is_over t e ≡ true
+  pub none_there : (e : ℕ) → IsWhole (parts_of word t i) e → next_start word t e ≡ None → is_over t e ≡ true
       → PlaceIs p (next_index q) (record { statement = k; at = e })
   none_there e whole n over = record {
     statement = begun.statement;
     at = subst (λ (x : List ℕ). IsSamePlace x (q.index + 1) e) (sym begun.text)
-        (laws.at_last t q.index begun.begin e _ begun.at
+        (laws.at_last t q.index begun.start e _ begun.at
         (begun_round e whole ∙ ap (command_and (command_of word (parts_of word t i)) e) n) over);
   }
 

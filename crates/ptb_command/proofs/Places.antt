@@ -1,5 +1,5 @@
 -- This file proves which byte place stands for which index among the commands of a statement.
--- Main lemma: `begin_there`.
+-- Main lemma: `start_there`.
 use Rattle.std.proofs.Common.{◌≡◌, ℕ, zero, suc, ◌+◌, Bool, true, false, List, [], ◌∷◌, drop}
 use Rattle.std.proofs.Common.{slice_get, Option, Some, None, refl, sym, ap, subst, ◌∙◌, arith}
 use Rattle.std.proofs.Common.{add-one}
@@ -9,10 +9,10 @@ use Rattle.ptb_text.specs.FoundParts.{FindingLaws}
 use Rattle.ptb_expr.specs.Reading.{Reading, Whole, Malformed, item_of}
 use Rattle.ptb_expr.specs.Spells.{SpellingLaws}
 use Rattle.ptb_command.specs.Items.{Round, Last, Onward, in_front, with_others, items}
-use Rattle.ptb_command.specs.Commands.{Part, Command, command_at, next_begin, command_and}
+use Rattle.ptb_command.specs.Commands.{Part, Command, command_at, next_start, command_and}
 use Rattle.ptb_command.specs.Commands.{after_command, command_unless, command_round, commands_from}
 use Rattle.ptb_command.specs.Commands.{commands}
-use Rattle.ptb_command.specs.Places.{IsSamePlace, next_place, begin_of, commands_after}
+use Rattle.ptb_command.specs.Places.{IsSamePlace, next_place, start_of_command, commands_after}
 use Rattle.ptb_command.proofs.Sequences.{items_by_round}
 use Rattle.ptb_command.proofs.CommandOrder.{RoundOn, commands_on, commands_advance}
 
@@ -54,12 +54,12 @@ module _ (t : List ℕ) where
     Ends : commands_after t r ≡ c ∷ [] → Reads c r
     Goes : (j : ℕ) → r ≡ Onward c j → Reads c r
 
-  begin_reads : (c : Command) (e : ℕ) (o : Option ℕ) → Reads c (command_and c e o)
-  begin_reads c e (Some j) = Goes j refl
-  begin_reads c e None = Ends refl
+  start_reads : (c : Command) (e : ℕ) (o : Option ℕ) → Reads c (command_and c e o)
+  start_reads c e (Some j) = Goes j refl
+  start_reads c e None = Ends refl
 
   command_reads : (c : Command) (r : Reading (List Part)) → Reads c (after_command t c r)
-  command_reads c (Whole parts e) = begin_reads c e (next_begin c.kind t e)
+  command_reads c (Whole parts e) = start_reads c e (next_start c.kind t e)
   command_reads c (Malformed parts) = Ends refl
 
   round_over : (b : ℕ) → is_over t b ≡ true → command_round t b ≡ Last (Whole [] b)
@@ -129,45 +129,46 @@ module _ (finding : FindingLaws) (spelling : SpellingLaws) (t : List ℕ) where
   from_next (Last r) j e = absurd cc
   from_next (Onward c i) j e = let same : i ≡ j = cc in (c, ap (Onward c) same)
 
-  pub begins_at : (k b : ℕ) → begin_of t k ≡ Some b → IsSamePlace t k b
-  unfolding begin_of
+  pub begins_at : (k b : ℕ) → start_of_command t k ≡ Some b → IsSamePlace t k b
+  unfolding start_of_command
   begins_at zero b e = let same : 0 ≡ b = cc in subst (IsSamePlace t 0) same at_first
-  begins_at (suc k) b e = by_begin (begin_of t k) refl (λ i h. begins_at k i h) e
+  begins_at (suc k) b e = by_begin (start_of_command t k) refl (λ i h. begins_at k i h) e
     where
-      by_begin : (o : Option ℕ) → begin_of t k ≡ o → ((i : ℕ) → begin_of t k ≡ Some i → IsSamePlace t k i)
+      by_begin : (o : Option ℕ) → start_of_command t k ≡ o → ((i : ℕ) → start_of_command t k ≡ Some i
+          → IsSamePlace t k i)
           → option_and_then (λ i. next_place (command_round t i)) o ≡ Some b → IsSamePlace t (suc k) b
       by_begin None h at e = absurd cc
       by_begin (Some i) h at e = let r = from_next (command_round t i) b e in at_suc k i b r.0 (at i h) r.1
 
   -- a command at an index begins at the byte place of this index
-  here : (k b : ℕ) (c : Command) → begin_of t k ≡ Some b → slice_get (commands t) k ≡ Some c
-      → (b : ℕ) × (begin_of t k ≡ Some b) × (is_over t b ≡ false) × (command_at t b ≡ c)
+  here : (k b : ℕ) (c : Command) → start_of_command t k ≡ Some b → slice_get (commands t) k ≡ Some c
+      → (b : ℕ) × (start_of_command t k ≡ Some b) × (is_over t b ≡ false) × (command_at t b ≡ c)
   here k b c h e = by_over (is_over t b) refl
     where
       by_over : (v : Bool) → is_over t b ≡ v
-          → (b : ℕ) × (begin_of t k ≡ Some b) × (is_over t b ≡ false) × (command_at t b ≡ c)
+          → (b : ℕ) × (start_of_command t k ≡ Some b) × (is_over t b ≡ false) × (command_at t b ≡ c)
       by_over true v = let none = at_none k b (begins_at k b h) v in absurd cc
       by_over false v = let some = at_there k b (begins_at k b h) v in let same : Some (command_at t b) ≡ Some c = cc in
           (b, h, v, cc)
 
-  begin_suc : (k b j : ℕ) (c : Command) → begin_of t k ≡ Some b → command_round t b ≡ Onward c j
-      → begin_of t (suc k) ≡ Some j
-  unfolding begin_of
-  begin_suc k b j c h e = ap (λ o. option_and_then (λ i. next_place (command_round t i)) o) h ∙ ap next_place e
+  start_suc : (k b j : ℕ) (c : Command) → start_of_command t k ≡ Some b → command_round t b ≡ Onward c j
+      → start_of_command t (suc k) ≡ Some j
+  unfolding start_of_command
+  start_suc k b j c h e = ap (λ o. option_and_then (λ i. next_place (command_round t i)) o) h ∙ ap next_place e
 
   -- each command begins somewhere
-  pub begin_there : (k : ℕ) (c : Command) → slice_get (commands t) k ≡ Some c
-      → (b : ℕ) × (begin_of t k ≡ Some b) × (is_over t b ≡ false) × (command_at t b ≡ c)
-  unfolding begin_of
-  begin_there zero c e = here 0 0 c refl e
-  begin_there (suc k) c e =
+  pub start_there : (k : ℕ) (c : Command) → slice_get (commands t) k ≡ Some c
+      → (b : ℕ) × (start_of_command t k ≡ Some b) × (is_over t b ≡ false) × (command_at t b ≡ c)
+  unfolding start_of_command
+  start_there zero c e = here 0 0 c refl e
+  start_there (suc k) c e =
       let before = one_before (commands t) k c e in
-      let there = begin_there k before.0 before.1 in
+      let there = start_there k before.0 before.1 in
       by_reads there.0 there.1 (round_reads t there.0 there.2)
     where
-      by_reads : (b : ℕ) → begin_of t k ≡ Some b → Reads t (command_at t b) (command_round t b)
-          → (b : ℕ) × (begin_of t (suc k) ≡ Some b) × (is_over t b ≡ false) × (command_at t b ≡ c)
-      by_reads b h (Goes j r) = here (suc k) j c (begin_suc k b j (command_at t b) h r) e
+      by_reads : (b : ℕ) → start_of_command t k ≡ Some b → Reads t (command_at t b) (command_round t b)
+          → (b : ℕ) × (start_of_command t (suc k) ≡ Some b) × (is_over t b ≡ false) × (command_at t b ≡ c)
+      by_reads b h (Goes j r) = here (suc k) j c (start_suc k b j (command_at t b) h r) e
       by_reads b h (Ends r) =
           let at = begins_at k b h in
           let none = index_none (commands t) (suc k)

@@ -10,7 +10,7 @@ use Rattle.ptb_command.specs.Items.{Round, Last, Onward, with_others, items_with
 use Rattle.ptb_command.specs.Commands.{Part, Command, comma_round, assignment, print_item}
 use Rattle.ptb_command.specs.Commands.{item_round, input_item, parts_of, command_at, command_round}
 use Rattle.ptb_command.specs.Commands.{commands_from, commands}
-use Rattle.ptb_command.specs.Places.{IsSamePlace, begin_of, commands_after}
+use Rattle.ptb_command.specs.Places.{IsSamePlace, start_of_command, commands_after}
 
 -- ---- parts and commands
 
@@ -58,7 +58,7 @@ pub record CommandLaws : Type 0 where
       → slice_get (commands t) k ≡ Some (command_at t b)
   pub at_none : (t : List ℕ) (k b : ℕ) → IsSamePlace t k b → is_over t b ≡ true → slice_get (commands t) k ≡ None
   -- each command has a byte place, from which on the text lists it and those after it
-  pub begins_at : (t : List ℕ) (k b : ℕ) → begin_of t k ≡ Some b → IsSamePlace t k b
+  pub begins_at : (t : List ℕ) (k b : ℕ) → start_of_command t k ≡ Some b → IsSamePlace t k b
   pub begins :
       (t : List ℕ) (k : ℕ) (c : Command) → slice_get (commands t) k ≡ Some c
-      → (b : ℕ) × (begin_of t k ≡ Some b) × (is_over t b ≡ false) × (command_at t b ≡ c)
+      → (b : ℕ) × (start_of_command t k ≡ Some b) × (is_over t b ≡ false) × (command_at t b ≡ c)

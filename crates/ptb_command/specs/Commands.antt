@@ -228,20 +228,20 @@ unfoldable pub command_at : List ℕ → ℕ → Command
 command_at t i = command_by t i (word_at Commands t i)
 
 -- where the next command of the statement begins, after one that ends at e
-abbrev pub next_begin : Word → List ℕ → ℕ → Option ℕ
-next_begin RemKw t e = None
-next_begin GotoKw t e = None
-next_begin ReturnKw t e = None
-next_begin StopKw t e = None
-next_begin IfKw t e = Some e
-next_begin _ t e = token_at 59 t e
+abbrev pub next_start : Word → List ℕ → ℕ → Option ℕ
+next_start RemKw t e = None
+next_start GotoKw t e = None
+next_start ReturnKw t e = None
+next_start StopKw t e = None
+next_start IfKw t e = Some e
+next_start _ t e = token_at 59 t e
 
 abbrev pub command_and : Command → ℕ → Option ℕ → Round Command
 command_and c e (Some j) = Onward c j
 command_and c e None = Last (Whole (c ∷ []) e)
 
 abbrev pub after_command : List ℕ → Command → Reading (List Part) → Round Command
-after_command t c (Whole parts e) = command_and c e (next_begin c.kind t e)
+after_command t c (Whole parts e) = command_and c e (next_start c.kind t e)
 after_command t c (Malformed parts) = Last (Malformed (c ∷ []))
 
 abbrev pub command_unless : List ℕ → ℕ → Bool → Round Command

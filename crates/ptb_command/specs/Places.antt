@@ -1,7 +1,7 @@
 -- This file defines where in the text of a statement its commands begin.
 -- Main definition: `IsSamePlace`.
 --     IsSamePlace t k b        index k among the commands of t, and byte place b in t, are one place
---     begin_of t k             the byte place at which the command of index k begins
+--     start_of_command t k     the byte place at which the command of index k begins
 --     commands_after t r       the commands that a round reads, and those after it
 use Rattle.std.specs.Prelude.{◌≡◌, ℕ, zero, suc, ◌≤◌, List, ◌∷◌, length, drop, Option, Some, None}
 use Rattle.std.specs.Option.{option_and_then}
@@ -19,9 +19,9 @@ abbrev pub next_place : Round Command → Option ℕ
 next_place (Last r) = None
 next_place (Onward c j) = Some j
 
-unfoldable pub begin_of : List ℕ → ℕ → Option ℕ
-begin_of t zero = Some 0
-begin_of t (suc k) = option_and_then (λ b. next_place (command_round t b)) (begin_of t k)
+unfoldable pub start_of_command : List ℕ → ℕ → Option ℕ
+start_of_command t zero = Some 0
+start_of_command t (suc k) = option_and_then (λ b. next_place (command_round t b)) (start_of_command t k)
 
 abbrev pub commands_after : List ℕ → Round Command → List Command
 commands_after t (Last r) = item_of r

@@ -51,9 +51,9 @@ pub record Represents (p : Statements) (m : Configuration) (S : State) : Type 0 
 pub record Begun (p : Statements) (q : Place) (k : ℕ) (t : List ℕ) (word : Word) (i : ℕ) : Type 0 where
   pub statement : slice_get p k ≡ Some (q.number, text_of p q.number)
   pub text : text_of p q.number ≡ t
-  pub begin : ℕ
-  pub at : IsSamePlace t q.index begin
-  pub more : is_over t begin ≡ false
-  pub command : command_at t begin ≡ command_of word (parts_of word t i)
-  pub from : begin ≤ i
+  pub start : ℕ
+  pub at : IsSamePlace t q.index start
+  pub more : is_over t start ≡ false
+  pub command : command_at t start ≡ command_of word (parts_of word t i)
+  pub from : start ≤ i
   pub within : i ≤ length t

@@ -39,7 +39,7 @@ pub use Rattle.ptb_machine.specs.ProgramCode.{code_from}
 pub use Rattle.ptb_machine.specs.RunDevices.{lent, run_devices}
 pub use Rattle.ptb_machine.specs.Runs.{IsCompleteRun, IsRunToEnd, ending_alone}
 pub use Rattle.ptb_machine.specs.SeededRuns.{IsDrawn, SeededLaws}
-pub use Rattle.ptb_machine.specs.ShortForms.{beginning, place_by, IsSet, IsSetElement, IsIf, IsLastIf, IsGosub}
+pub use Rattle.ptb_machine.specs.ShortForms.{statement_start, place_by, IsSet, IsSetElement, IsIf, IsLastIf, IsGosub}
 pub use Rattle.ptb_machine.specs.ShortForms.{IsReturn, IsEndTurn, HasShortForm, IsShortForm, LeadsToStatement}
 pub use Rattle.ptb_machine.specs.ShortForms.{viewed, with_form}
 pub use Rattle.ptb_machine.specs.ShortSteps.{DoesEntry, MovesOn, Arrives}
