@@ -14,7 +14,7 @@ use Rattle.ptb_explore.specs.declared.mismatch.Mismatch.TheVariants.{OutOfRange,
 use Rattle.ptb_explore.specs.declared.mismatch.Mismatch.TheVariants.{NoQuestion, Missing, NotUnder}
 use Rattle.ptb_explore.specs.MarkedRuns.{IsMarkedRun, IsMarkedBeginning, is_bound, states_bounds}
 use Rattle.ptb_explore.specs.Mismatch.{IsAskedFor, IsQuestion, IsItemMismatch, LacksItem, IsRunMismatch}
-use Rattle.ptb_explore.specs.Mismatch.{IsUnder, MismatchLaws}
+use Rattle.ptb_explore.specs.Mismatch.{HasPrefix, MismatchLaws}
 use Rattle.ptb_machine.specs.RunTree.{IsRun, begins_with}
 use Rattle.ptb_machine.proofs.PublicLemmas.{length-bounds, bounds-append}
 use Rattle.ptb_explore.proofs.Mismatches.{answers_length, answers_split, item_is_run}
@@ -289,8 +289,8 @@ module _ {A W : Type 0} (play : Answers → Outcome A W) (most : ℕ) (reads : I
   -- ---- of a run
 
   data Reason (under list : List Marked) (r : Mismatch) : Type 0 where
-    AtItem : IsUnder under list → IsItemMismatch play list r → Reason under list r
-    Lacks : (item : ℕ) (bound : ℤ) → r ≡ Missing item bound → IsUnder under list → LacksItem play list item bound
+    AtItem : HasPrefix under list → IsItemMismatch play list r → Reason under list r
+    Lacks : (item : ℕ) (bound : ℤ) → r ≡ Missing item bound → HasPrefix under list → LacksItem play list item bound
         → Reason under list r
     Other : r ≡ NotUnder → begins_with (answers_of list) (answers_of under) ≡ false → Reason under list r
 
@@ -315,7 +315,7 @@ module _ {A W : Type 0} (play : Answers → Outcome A W) (most : ℕ) (reads : I
   one_reason under list r s (Other e x) (Other f y) = e ∙ sym f
 
   decided_run : (under list : List Marked)
-      → (IsMarkedRun play list × IsUnder under list) ⊎ ((m : Mismatch) × IsRunMismatch play under list m)
+      → (IsMarkedRun play list × HasPrefix under list) ⊎ ((m : Mismatch) × IsRunMismatch play under list m)
   decided_run under list = elim (cases_Bool (begins_with (answers_of list) (answers_of under))) [
     | inr h ↦ inr (NotUnder, h)
     | inl u ↦ elim (decided list) [

@@ -19,7 +19,7 @@ use Rattle.ptb_explore.specs.declared.mismatch.Mismatch.TheVariants.{OutOfRange,
 use Rattle.ptb_explore.specs.declared.mismatch.Mismatch.TheVariants.{NoQuestion, Missing, NotUnder}
 use Rattle.ptb_explore.specs.MarkedRuns.{IsMarkedRun, IsMarkedBeginning, is_bound, states_bounds}
 use Rattle.ptb_explore.specs.Mismatch.{IsOutOfRange, IsOtherBound, HasMoreItems, IsItemMismatch}
-use Rattle.ptb_explore.specs.Mismatch.{LacksItem, IsRunMismatch, IsUnder, TakesItems}
+use Rattle.ptb_explore.specs.Mismatch.{LacksItem, IsRunMismatch, HasPrefix, TakesItems}
 use Rattle.ptb_machine.specs.RunTree.{IsRun}
 use Rattle.ptb_explore.proofs.Attempt.{run_opens}
 use Rattle.ptb_machine.proofs.PublicLemmas.{length-bounds, bounds-append}
@@ -342,7 +342,7 @@ module _ {A W : Type 0} (play : Answers → Outcome A W) (most : ℕ) (reads : I
 
   -- ---- of a run
 
-  pub item_is_run : (under list : List Marked) (m : Mismatch) → IsUnder under list → IsItemMismatch play list m
+  pub item_is_run : (under list : List Marked) (m : Mismatch) → HasPrefix under list → IsItemMismatch play list m
       → IsRunMismatch play under list m
   item_is_run under list (OutOfRange item answer bound) u x = (u, x)
   item_is_run under list (OtherBound item stated bound) u x = (u, x)
@@ -351,7 +351,7 @@ module _ {A W : Type 0} (play : Answers → Outcome A W) (most : ℕ) (reads : I
   item_is_run under list NotUnder u x = absurd x
 
   -- of a list that begins with another, it is that of the list alone
-  pub alone_is_under : (under list : List Marked) (m : Mismatch) → IsUnder under list → IsRunMismatch play [] list m
+  pub alone_is_under : (under list : List Marked) (m : Mismatch) → HasPrefix under list → IsRunMismatch play [] list m
       → IsRunMismatch play under list m
   alone_is_under under list (OutOfRange item answer bound) u x = (u, x.1)
   alone_is_under under list (OtherBound item stated bound) u x = (u, x.1)
@@ -363,7 +363,7 @@ module _ {A W : Type 0} (play : Answers → Outcome A W) (most : ℕ) (reads : I
   run_begins list run = (run_opens play most reads (answers_of list) run.0, run.1)
 
   pub run_closes : (under list : List Marked) (m : Mismatch) → IsRunMismatch play under list m → IsMarkedRun play list
-      → IsUnder under list → ⊥
+      → HasPrefix under list → ⊥
   run_closes under list (OutOfRange item answer bound) x run b =
       mismatch_closes play most reads list (OutOfRange item answer bound) x.1 (run_begins list run)
   run_closes under list (OtherBound item stated bound) x run b =

@@ -37,9 +37,9 @@ before_from_less x y a b l = or_left (int_lt x y) _ (less_from x y l)
 pub before_from_same : (x : ℤ) (a b : Answers) → Before a b → Before (x ∷ a) (x ∷ b)
 before_from_same x a b h = or_right (int_lt x x) _ (and_from (int_eq x x) (is_before a b) (same_from x) h)
 
-pub before_under : (q a b : Answers) → Before a b → Before (q ++ a) (q ++ b)
-before_under [] a b h = h
-before_under (x ∷ q) a b h = before_from_same x (q ++ a) (q ++ b) (before_under q a b h)
+pub before_prefixed : (q a b : Answers) → Before a b → Before (q ++ a) (q ++ b)
+before_prefixed [] a b h = h
+before_prefixed (x ∷ q) a b h = before_from_same x (q ++ a) (q ++ b) (before_prefixed q a b h)
 
 pub before_front : (q a b : Answers) → Before (q ++ a) (q ++ b) → Before a b
 before_front [] a b h = h
@@ -49,7 +49,7 @@ before_front (x ∷ q) a b h = elim (before_step x x (q ++ a) (q ++ b) h) [
 ]
 
 pub before_from_differ : (front a b : Answers) (x y : ℤ) → x <ℤ y → Before (front ++ x ∷ a) (front ++ y ∷ b)
-before_from_differ front a b x y l = before_under front (x ∷ a) (y ∷ b) (before_from_less x y a b l)
+before_from_differ front a b x y l = before_prefixed front (x ∷ a) (y ∷ b) (before_from_less x y a b l)
 
 pub before_self : (a : Answers) → Before a a → ⊥
 before_self [] h = absurd cc

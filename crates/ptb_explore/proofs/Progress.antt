@@ -113,7 +113,7 @@ module _ {A W : Type 0} (play : Answers → Outcome A W) (most : ℕ) (reads : I
         → WritesSome play under report list start front old new n
     progress_some front remaining new n p h more =
         record {
-          beginning = p.done;
+          prefix = p.done;
           rest = runs_left play most under front remaining;
           split = p.split;
           some_left = left_some play most reads under front remaining h more;
@@ -127,7 +127,7 @@ module _ {A W : Type 0} (play : Answers → Outcome A W) (most : ℕ) (reads : I
         → IsNextRun play under front a → TakesSome new new' (report a)
         → WritesInto play under report list start (At a) old new' n
     progress_into front remaining new new' n a p h next part = record {
-      beginning = p.done;
+      prefix = p.done;
       at = a;
       rest = runs_left play most under (At a) (less_one remaining);
       split = p.split ∙ ap (λ x. p.done ++ x) (left_more play most reads under front remaining a h next);

@@ -121,9 +121,9 @@ module _ {A W : Type 0} (play : Answers → Outcome A W) (most : ℕ) (reads : I
       (split_at a i (pos 0) l) (length-take-le i a (omega arith)) r low top
 
   -- what is raised continues with the answers in front
-  raise_under : (under a : Answers) (i : ℕ) → begins_with a under ≡ true → length under ≤ i → (y : ℤ)
+  raise_prefixed : (under a : Answers) (i : ℕ) → begins_with a under ≡ true → length under ≤ i → (y : ℤ)
       → IsPlan play [] (At a) (take i a ++ y ∷ []) → IsPlan play under (At a) (take i a ++ y ∷ [])
-  raise_under under a i b f y p = record {
+  raise_prefixed under a i b f y p = record {
     opens = p.opens;
     next = λ ones o r.
         let n = p.next ones o r in
@@ -158,7 +158,7 @@ module _ {A W : Type 0} (play : Answers → Outcome A W) (most : ℕ) (reads : I
   next_plan under AtStart answers plan bounded i s p = rw p.1 (start_plan under s)
   next_plan under AtRun answers plan bounded i s p =
       let last : IsLastBelow (length under) answers (bounds play answers) i = rw s.1 at p.0 in
-      rw p.1 (raise_under under answers i s.2 last.following _
+      rw p.1 (raise_prefixed under answers i s.2 last.following _
       (raise_plan answers i s.0 last.within last.below last.last))
   next_plan under AtEnd answers plan bounded i s p = absurd p
 

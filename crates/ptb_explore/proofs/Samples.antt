@@ -136,7 +136,7 @@ module _ {A W : Type 0} (play : Answers → Outcome A W) (most : ℕ) (report : 
     sampled_some : (remaining n : ℕ) → 0 < remaining → Sampled play most report first runs g remaining old new
         → n ≡ runs - remaining → WritesFirst report (sampled_runs most play first runs) old new n
     sampled_some remaining n more p is = record {
-      beginning = p.done;
+      prefix = p.done;
       rest = sampled_runs most play g remaining;
       split = p.split;
       some_left = some_left remaining more;
@@ -149,7 +149,7 @@ module _ {A W : Type 0} (play : Answers → Outcome A W) (most : ℕ) (report : 
         → TakesSome new new' (report next_run) → WritesPart report (sampled_runs most play first runs) old new' n
     sampled_part zero n new' more p is part = absurd (omega (arith, more))
     sampled_part (suc remaining) n new' more p is part = record {
-      beginning = p.done;
+      prefix = p.done;
       at = next_run;
       rest = sampled_runs most play (generator_after g (length next_run)) remaining;
       split = p.split;
@@ -189,7 +189,7 @@ module _ {A W : Type 0} (play : Answers → Outcome A W) (most : ℕ) (report : 
     by_count : (n : ℕ) → (n ≡ 0 → ⊥) → WritesFirst report (sampled_runs most play first n) old old 0
     by_count zero h = absurd (h refl)
     by_count (suc n) h = record {
-      beginning = [];
+      prefix = [];
       rest = sampled_runs most play first (suc n);
       split = refl;
       some_left = λ none. absurd cc;

@@ -79,25 +79,25 @@ module _ {A W : Type 0} (play : Answers → Outcome A W) (under : Answers) (repo
 
   -- the reports of a prefix of the list were written, and not the complete list; it is after them
   pub record WritesSome (list : List Answers) (f f' : Front) (old new : Option (List ℕ)) (n : ℕ) : Type 0 where
-    pub beginning : List Answers
+    pub prefix : List Answers
     pub rest : List Answers
-    pub split : list ≡ beginning ++ rest
+    pub split : list ≡ prefix ++ rest
     pub some_left : rest ≡ [] → ⊥
-    pub bytes : Appends old new (text report beginning)
-    pub count : n ≡ count_of beginning
-    pub front : f' ≡ front_after f beginning
+    pub bytes : Appends old new (text report prefix)
+    pub count : n ≡ count_of prefix
+    pub front : f' ≡ front_after f prefix
 
   -- the reports of a prefix of the list were written, and a prefix of the next; it is at that one
   pub record WritesInto (list : List Answers) (f f' : Front) (old new : Option (List ℕ)) (n : ℕ) : Type 0 where
-    pub beginning : List Answers
+    pub prefix : List Answers
     pub at : Answers
     pub rest : List Answers
-    pub split : list ≡ beginning ++ at ∷ rest
+    pub split : list ≡ prefix ++ at ∷ rest
     pub part : List ℕ
     pub remainder : List ℕ
     pub cut : report at ≡ part ++ remainder
-    pub bytes : Appends old new (text report beginning ++ part)
-    pub count : n ≡ count_of beginning
+    pub bytes : Appends old new (text report prefix ++ part)
+    pub count : n ≡ count_of prefix
     pub front : f' ≡ At at
 
   abbrev pub WritesRuns : List Answers → Front → Front → Option (List ℕ) → Option (List ℕ) → Result ℕ ExploreFault

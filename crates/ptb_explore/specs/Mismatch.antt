@@ -1,6 +1,6 @@
 -- This file defines why the items of a list are no run, or why no run begins with them. Items count from 1.
 -- Main definitions: `IsItemMismatch` and `IsRunMismatch`.
---     IsUnder under list                      the answers of the list begin with those of another
+--     HasPrefix under list                    the answers of the list begin with those of another
 --     IsQuestion play items bound             after these items a run asks for an answer from 1 to the bound
 --     IsAskedFor play list item m bound       a run begins with the items before m, and asks for m with this bound
 --     IsItemMismatch play list mismatch       the first item of the list that does not fit
@@ -25,8 +25,8 @@ use Rattle.ptb_explore.specs.Recorders.{recorder_choices}
 use Rattle.ptb_explore.specs.MarkedRuns.{IsMarkedRun, IsMarkedBeginning}
 use Rattle.ptb_machine.specs.RunTree.{begins_with}
 
-abbrev pub IsUnder : List Marked → List Marked → Type 0
-IsUnder under list = begins_with (answers_of list) (answers_of under) ≡ true
+abbrev pub HasPrefix : List Marked → List Marked → Type 0
+HasPrefix under list = begins_with (answers_of list) (answers_of under) ≡ true
 
 module _ {A W : Type 0} (play : Answers → Outcome A W) where
   abbrev pub IsQuestion : List Marked → ℤ → Type 0
@@ -83,10 +83,10 @@ module _ {A W : Type 0} (play : Answers → Outcome A W) where
   -- how it begins is looked at first
   abbrev pub IsRunMismatch : List Marked → List Marked → Mismatch → Type 0
   IsRunMismatch under list NotUnder = begins_with (answers_of list) (answers_of under) ≡ false
-  IsRunMismatch under list (Missing item bound) = IsUnder under list × LacksItem list item bound
-  IsRunMismatch under list (OutOfRange item answer bound) = IsUnder under list × IsOutOfRange list item answer bound
-  IsRunMismatch under list (OtherBound item stated bound) = IsUnder under list × IsOtherBound list item stated bound
-  IsRunMismatch under list (NoQuestion items) = IsUnder under list × HasMoreItems list items
+  IsRunMismatch under list (Missing item bound) = HasPrefix under list × LacksItem list item bound
+  IsRunMismatch under list (OutOfRange item answer bound) = HasPrefix under list × IsOutOfRange list item answer bound
+  IsRunMismatch under list (OtherBound item stated bound) = HasPrefix under list × IsOtherBound list item stated bound
+  IsRunMismatch under list (NoQuestion items) = HasPrefix under list × HasMoreItems list items
 
   -- ---- what playing a list shows
 
@@ -105,7 +105,7 @@ pub record MismatchLaws {A W : Type 0} (play : Answers → Outcome A W) : Type 0
   pub one_beginning : (list : List Marked) (m n : Mismatch) → IsItemMismatch play list m → IsItemMismatch play list n
       → m ≡ n
   pub run : (under list : List Marked)
-      → (IsMarkedRun play list × IsUnder under list → ⊥) ↔ ((m : Mismatch) × IsRunMismatch play under list m)
+      → (IsMarkedRun play list × HasPrefix under list → ⊥) ↔ ((m : Mismatch) × IsRunMismatch play under list m)
   pub one_run : (under list : List Marked) (m n : Mismatch) → IsRunMismatch play under list m
       → IsRunMismatch play under list n → m ≡ n
 

@@ -13,7 +13,7 @@ use Rattle.ptb_machine.specs.Play.{Finish}
 use Rattle.ptb_explore.specs.declared.mismatch.Mismatch.{Mismatch}
 use Rattle.ptb_explore.specs.Explorations.{IsAdded, IsPlayed}
 use Rattle.ptb_explore.specs.MarkedRuns.{IsMarkedRun}
-use Rattle.ptb_explore.specs.Mismatch.{IsRunMismatch, IsUnder}
+use Rattle.ptb_explore.specs.Mismatch.{IsRunMismatch, HasPrefix}
 use Rattle.ptb_machine.specs.RunTree.{Front, Start, At, IsNextRun}
 
 abbrev pub first_front : Option (List Marked) → Front
@@ -23,7 +23,7 @@ first_front (Some list) = At (answers_of list)
 module _ (play : Answers → Outcome Finish (List ℕ)) where
   pub record IsRunUnder (under list : List Marked) : Type 0 where
     pub run : IsMarkedRun play list
-    pub begins : IsUnder under list
+    pub begins : HasPrefix under list
 
   abbrev pub IsRefusedRun : List Marked → Option (List Marked) → Mismatch → Type 0
   IsRefusedRun under None m = ⊥

@@ -33,24 +33,24 @@ module _ (report : Answers → List ℕ) where
 
   -- the reports of the first n runs were written, and not of the complete list
   pub record WritesFirst (list : List Answers) (old new : Option (List ℕ)) (n : ℕ) : Type 0 where
-    pub beginning : List Answers
+    pub prefix : List Answers
     pub rest : List Answers
-    pub split : list ≡ beginning ++ rest
+    pub split : list ≡ prefix ++ rest
     pub some_left : rest ≡ [] → ⊥
-    pub bytes : Appends old new (text report beginning)
-    pub count : n ≡ length beginning
+    pub bytes : Appends old new (text report prefix)
+    pub count : n ≡ length prefix
 
   -- the reports of the first n runs were written, and a prefix of the next
   pub record WritesPart (list : List Answers) (old new : Option (List ℕ)) (n : ℕ) : Type 0 where
-    pub beginning : List Answers
+    pub prefix : List Answers
     pub at : Answers
     pub rest : List Answers
-    pub split : list ≡ beginning ++ at ∷ rest
+    pub split : list ≡ prefix ++ at ∷ rest
     pub part : List ℕ
     pub remainder : List ℕ
     pub cut : report at ≡ part ++ remainder
-    pub bytes : Appends old new (text report beginning ++ part)
-    pub count : n ≡ length beginning
+    pub bytes : Appends old new (text report prefix ++ part)
+    pub count : n ≡ length prefix
 
   abbrev pub WritesSample : List Answers → Option (List ℕ) → Option (List ℕ) → Result (Unit {0}) ExploreFault → Type 0
   WritesSample list old new (Ok done) = Appends old new (text report list)

@@ -23,7 +23,7 @@ pub struct Explorer<'a> {
     /// Plays the runs; its report has the answers and bounds of the run at which the explorer is.
     pub(crate) runner: Runner<'a>,
     /// The answers with which each of the runs begins.
-    pub(crate) under: Vec<Marked>,
+    pub(crate) prefix: Vec<Marked>,
     /// Where the listing of the runs is.
     pub(crate) position: ListingPosition,
 }
@@ -39,11 +39,11 @@ impl<'a> Model for Explorer<'a> {
     // that of its rules is given, since they state a fact
     ghost coded = { Prim.hlevel (codes, rules_type.the_row.coded) };
 
-    ghost view = { λ e. exploration e.runner.player e.runner.lines.now e.runner.rules (answers_of e.under.items)
+    ghost view = { λ e. exploration e.runner.player e.runner.lines.now e.runner.rules (answers_of e.prefix.items)
         (front_at e.position (answers_in e.runner.report.asked.items))
         (kept_runs (answers_in e.runner.report.asked.items) e.runner.copies.kept.items) e.runner.played };
 
-    ghost invariant = { λ e. IsPosition (game_of e.runner) (answers_of e.under.items)
+    ghost invariant = { λ e. IsPosition (game_of e.runner) (answers_of e.prefix.items)
         e.position (answers_in e.runner.report.asked.items) (bounds_in e.runner.report.asked.items)
         × AreCopiesAt e.runner.player e.runner.lines.now e.runner.rules e.position e.runner.report
         e.runner.copies.kept.items };
@@ -75,7 +75,7 @@ impl<'a> Explorer<'a> {
         ensures* leaves { sem 𝓛 (NextRests self.entry result) }
     {
         run_laws();
-        let found = self.runner.report_next(self.position, &self.under);
+        let found = self.runner.report_next(self.position, &self.prefix);
         match found {
             Ok(true) => {
                 self.position = ListingPosition::AtRun;

@@ -39,14 +39,14 @@ pub(crate) fn unmarked(alloc: Global, answers: &[i16]) -> Result<Vec<Marked>, Al
 }
 
 /// Whether the answers of a list begin with those of another. It takes no memory.
-pub(crate) fn items_begin_with(list: &[Marked], under: &[Marked]) -> bool
-    ensures { result ≡ begins_with (answers_of list.now) (answers_of under.now) }
+pub(crate) fn items_begin_with(list: &[Marked], prefix: &[Marked]) -> bool
+    ensures { result ≡ begins_with (answers_of list.now) (answers_of prefix.now) }
 {
-    if list.len() < under.len() {
+    if list.len() < prefix.len() {
         return false;
     }
-    for k in 0..under.len() {
-        if list[k].answer != under[k].answer {
+    for k in 0..prefix.len() {
+        if list[k].answer != prefix[k].answer {
             return false;
         }
     }

@@ -42,17 +42,17 @@ impl<'a> Runner<'a> {
     pub(crate) fn report_next(
         &mut self,
         position: ListingPosition,
-        under: &[Marked],
+        prefix: &[Marked],
     ) -> Result<bool, AllocError>
-        requires position { IsPosition (game_of self.old) (answers_of under.now) position
+        requires position { IsPosition (game_of self.old) (answers_of prefix.now) position
             (answers_in self.old.report.asked.items) (bounds_in self.old.report.asked.items) }
         requires copies { AreCopiesAt self.old.player self.old.lines.now self.old.rules position
             self.old.report self.old.copies.kept.items }
         ensures same { IsSameGame self.old self.new }
-        ensures next { IfOk result (NextReports (game_of self.old) (answers_of under.now)
+        ensures next { IfOk result (NextReports (game_of self.old) (answers_of prefix.now)
             (front_at position (answers_in self.old.report.asked.items)) self.new.report) }
         ensures asked { OnErr result (self.new.report.asked.items ≡ self.old.report.asked.items) }
-        ensures ended { IsLast (game_of self.old) (answers_of under.now)
+        ensures ended { IsLast (game_of self.old) (answers_of prefix.now)
             (front_at position (answers_in self.old.report.asked.items)) → result ≡ Ok false }
         ensures copies { IfOk result (λ found. IsTrue found → HasRunCopies self.old self.new) }
         ensures played { IfOk result (NextPlays
@@ -62,7 +62,7 @@ impl<'a> Runner<'a> {
         ensures once { self.new.played < self.old.played + play_limit }
     {
         run_laws();
-        match plan_next(position, under, &self.report.asked, &mut self.chooser)? {
+        match plan_next(position, prefix, &self.report.asked, &mut self.chooser)? {
             None => Ok(false),
             Some(common) => {
                 self.report_plan(common)?;

@@ -124,7 +124,7 @@ impl<'a> Explorer<'a> {
         }
         let explorer = Explorer {
             runner,
-            under: items,
+            prefix: items,
             position: ListingPosition::AtStart,
         };
         match after {
@@ -293,7 +293,7 @@ impl<'a> Explorer<'a> {
             → begins_with (answers_of list.now) self.entry.under ≡ true }
     {
         run_laws();
-        if !items_begin_with(list, &self.under) {
+        if !items_begin_with(list, &self.prefix) {
             return Err(OpenFault::NotARun(Mismatch::NotUnder));
         }
         self.runner.check_run(list)?;

@@ -50,27 +50,27 @@ fn last_below(asked: &[Asked], floor: usize) -> Option<usize>
 #[inline(always)]
 pub(crate) fn plan_next(
     position: ListingPosition,
-    under: &[Marked],
+    prefix: &[Marked],
     asked: &[Asked],
     chooser: &mut Recorder,
 ) -> Result<Option<usize>, AllocError>
-    ensures plan { IfOk result (PlansNext (answers_of under.now) position
+    ensures plan { IfOk result (PlansNext (answers_of prefix.now) position
         (answers_in asked.now) (bounds_in asked.now) (recorded chooser.new)) }
 
     // The answers in front of the raised one have their bounds.
     ensures bounds { IfOk result (λ o. IfSome o
         (λ i. take i (bounds_in chooser.new.asked.items) ≡ take i (bounds_in asked.now))) }
     ensures fresh { IfOk result (λ o. OnSome o (IsFresh chooser.new)) }
-    ensures refused { OnErr result (HasPlan (answers_of under.now) position
+    ensures refused { OnErr result (HasPlan (answers_of prefix.now) position
         (answers_in asked.now) (bounds_in asked.now)) }
 {
     match position {
         ListingPosition::AtEnd => Ok(None),
         ListingPosition::AtStart => {
-            chooser.replay(under)?;
+            chooser.replay(prefix)?;
             Ok(Some(0))
         }
-        ListingPosition::AtRun => match last_below(asked, under.len()) {
+        ListingPosition::AtRun => match last_below(asked, prefix.len()) {
             None => Ok(None),
             Some(i) => {
                 let Asked { answer, bound } = asked[i];

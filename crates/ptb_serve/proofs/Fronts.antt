@@ -20,10 +20,10 @@ use Rattle.ptb_machine.specs.RunTree.{begins_with}
 use Rattle.ptb_serve.specs.declared.note.Note.{Note}
 use Rattle.ptb_serve.specs.declared.note.Note.TheVariants as notes
 use Rattle.ptb_serve.specs.ListMismatches.{IsUnbegun, items_of}
-use Rattle.ptb_serve.specs.Replies.{answers_under, front_note, is_front, begins_runs, note_of}
+use Rattle.ptb_serve.specs.Replies.{share_prefix, front_note, is_front, begins_runs, note_of}
 
 -- an option of items has their answers
-pub items_answers : (under : Option (List Marked)) → answers_of (items_of under) ≡ answers_under under
+pub items_answers : (under : Option (List Marked)) → answers_of (items_of under) ≡ share_prefix under
 items_answers None = refl
 items_answers (Some list) = refl
 
@@ -86,9 +86,9 @@ module _ (game : Answers → Outcome Finish (List ℕ)) where
   -- ---- one that isn't
 
   pub no_front : (under : Option (List Marked)) (list : List Marked) → begins_runs game under ≡ true
-      → (IsMarkedRun game list → begins_with (answers_of list) (answers_under under) ≡ true → ⊥)
+      → (IsMarkedRun game list → begins_with (answers_of list) (share_prefix under) ≡ true → ⊥)
       → front_note game under (Some list) ≡ Some notes.NoRun
-  no_front under list share none = ap₂ note_of share (front_false (answers_under under) list none)
+  no_front under list share none = ap₂ note_of share (front_false (share_prefix under) list none)
 
   pub no_share : (under : List Marked) (after : Option (List Marked)) → (IsMarkedBeginning game under → ⊥)
       → front_note game (Some under) after ≡ Some notes.NoBeginning
@@ -102,9 +102,9 @@ module _ (game : Answers → Outcome Finish (List ℕ)) where
   share_is (Some under) b = share_true under b
 
   front_is : (under after : Option (List Marked)) → IfSome after (IsRunUnder game (items_of under))
-      → is_front game (answers_under under) after ≡ true
+      → is_front game (share_prefix under) after ≡ true
   front_is under None run = refl
-  front_is under (Some list) run = front_true (answers_under under) list run.run
+  front_is under (Some list) run = front_true (share_prefix under) list run.run
       (subst (λ a. begins_with (answers_of list) a ≡ true) (items_answers under) run.begins)
 
   pub begun_at : (under after : Option (List Marked)) → IsMarkedBeginning game (items_of under)

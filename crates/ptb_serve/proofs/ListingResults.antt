@@ -28,7 +28,7 @@ use Rattle.ptb_explore.specs.declared.fault.OpenFault.TheVariants.{Memory, NoBeg
 use Rattle.ptb_serve.specs.declared.list_mismatch.ListMismatch.TheVariants.{Under, After}
 use Rattle.ptb_serve.specs.ListMismatches.{IsUnbegun, mismatch_note, unbegun_attempt}
 use Rattle.ptb_serve.specs.LoadedPrograms.{IsServedOn, ServesProgram, ReportsFailures}
-use Rattle.ptb_serve.specs.Replies.{answers_under, front_note}
+use Rattle.ptb_serve.specs.Replies.{share_prefix, front_note}
 use Rattle.ptb_serve.specs.ServedRequests.{ListsFewerOf, device_note, reports_note}
 use Rattle.ptb_serve.proofs.ServedListings.{front_note-loaded, front_note-other, front_note-silent, lists_fewer}
 use Rattle.ptb_serve.proofs.ServedListings.{runs_due, serves_front, serves_mode, serves_reports, serves_some}
@@ -114,7 +114,7 @@ module _ (request : Request) (p : StoredProgram) (memory : p.memory ≡ request.
 
     -- an explorer continued from its front
     module _ (out : Output) (e : Exploration) (f : Front)
-        (same : e ≡ exploration p input request.rules (answers_under under) (first_front after) e.kept e.played)
+        (same : e ≡ exploration p input request.rules (share_prefix under) (first_front after) e.kept e.played)
         (begun : front_note (play p input request.rules) under after ≡ None) where
       abbrev Writes : Result ℕ ExploreFault → Type 0
       Writes result =

@@ -20,7 +20,7 @@ use Rattle.ptb_explore.specs.declared.fault.OpenFault.TheVariants.{NoBeginning, 
 use Rattle.ptb_explore.specs.declared.mismatch.Mismatch.{Mismatch}
 use Rattle.ptb_explore.proofs.PublicLemmas.{on_ok_both}
 use Rattle.ptb_serve.specs.ListMismatches.{IsUnbegun, items_of}
-use Rattle.ptb_serve.specs.Replies.{answers_under, front_note}
+use Rattle.ptb_serve.specs.Replies.{share_prefix, front_note}
 use Rattle.ptb_serve.proofs.Fronts.{begun_at, items_answers, unbegun_at}
 
 -- ---- no run begins so
@@ -45,7 +45,7 @@ module _ (p : StoredProgram) (input : List (List ℕ)) (rules : Rules) (under : 
     (opened : e ≡ exploration p input rules (answers_of (items_of under)) Start [] e.played)
     (begins : IsMarkedBeginning (play p input rules) (items_of under)) where
   -- it is before the first of them
-  pub at_first : e ≡ exploration p input rules (answers_under under) (first_front None) e.kept e.played
+  pub at_first : e ≡ exploration p input rules (share_prefix under) (first_front None) e.kept e.played
   at_first = opened
       ∙ ap₂ (λ a k. exploration p input rules a Start k e.played) (items_answers under)
       (sym (ap (λ (x : Exploration). x.kept) opened))
@@ -62,7 +62,7 @@ module _ (p : StoredProgram) (input : List (List ℕ)) (rules : Rules) (under : 
   -- it has gone to the run of the other list
   pub at_named : (list : List Marked) (r : Result Exploration OpenFault)
       → IfOk r (λ x. x ≡ record e { front = At (answers_of list); kept = x.kept; played = x.played })
-      → IfOk r (λ x. x ≡ exploration p input rules (answers_under under) (first_front (Some list)) x.kept x.played)
+      → IfOk r (λ x. x ≡ exploration p input rules (share_prefix under) (first_front (Some list)) x.kept x.played)
   at_named list (Ok x) there = there
       ∙ ap (λ (y : Exploration). record y { front = At (answers_of list); kept = x.kept; played = x.played }) opened
       ∙ ap (λ a. exploration p input rules a (At (answers_of list)) x.kept x.played) (items_answers under)

@@ -33,7 +33,7 @@ use Rattle.ptb_check.specs.Laws.{CheckLaws}
 use Rattle.ptb_check.specs.Mistakes.{Mistake, mistakes}
 use Rattle.ptb_check.specs.WrittenMistakes.{has_any}
 use Rattle.ptb_machine.specs.SeededRuns.{SeededLaws, seeded_answers}
-use Rattle.ptb_serve.specs.Replies.{Reply, refusal, plain_reply, seeded_reply, answers_under}
+use Rattle.ptb_serve.specs.Replies.{Reply, refusal, plain_reply, seeded_reply, share_prefix}
 use Rattle.ptb_serve.specs.Replies.{front_note, is_front, note_of, all_reply}
 use Rattle.ptb_serve.specs.Replies.{chances_reply, check_reply, check_status, listing_reply}
 use Rattle.ptb_serve.specs.Replies.{runs_drawn, sample_reply, shares_reply, program_of_text}
@@ -91,15 +91,15 @@ module _ (p : StoredProgram) (c : List ℕ) (rules : Rules)
 
   -- a listing begins with the first run, or after one that is named; these are the runs that are to be listed
   lists_runs : (under after : Option (List Marked)) → front_note game under after ≡ None → (IsListed : Answers → Type 0)
-      → ((a : Answers) → (IsRun game a × (is_left (answers_under under) (first_front after) a ≡ true)) ↔ IsListed a)
+      → ((a : Answers) → (IsRun game a × (is_left (share_prefix under) (first_front after) a ≡ true)) ↔ IsListed a)
       → (reply : Option ℕ → Form → Reply)
       → ((first : Option ℕ) (form : Form) → reply first form ≡ all_reply p (input_lines c) rules under after first form)
       → ListsRuns game IsListed reply
   lists_runs under after front IsListed same reply is = record {
-    runs = runs_after game (most_answers p (input_lines c) rules.limit) (answers_under under) (first_front after);
-    rising = laws.order (answers_under under) (first_front after);
+    runs = runs_after game (most_answers p (input_lines c) rules.limit) (share_prefix under) (first_front after);
+    rising = laws.order (share_prefix under) (first_front after);
     members = λ a.
-        let left = laws.runs (answers_under under) (first_front after) a in
+        let left = laws.runs (share_prefix under) (first_front after) a in
         (λ h. (same a).0 (left.0 h), λ h. left.1 ((same a).1 h));
     all = λ form. is None form ∙ reply-listed p rules under after None form (input_lines c) front;
     first = λ n form. is (Some n) form ∙ reply-listed p rules under after (Some n) form (input_lines c) front;

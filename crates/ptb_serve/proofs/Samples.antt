@@ -29,7 +29,7 @@ use Rattle.ptb_serve.specs.declared.note.Note.TheVariants as notes
 use Rattle.ptb_serve.specs.LoadedPrograms.{IsServedOn, ServesProgram}
 use Rattle.ptb_serve.specs.Replies.{Reply, runs_drawn, sample_reply}
 use Rattle.ptb_serve.specs.ServedRequests.{SamplesFewerOf, Serves, device_note, outcome_of, reports_note}
-use Rattle.ptb_serve.proofs.ServedListings.{below_both, serves_mode, text-beginning, text-into}
+use Rattle.ptb_serve.proofs.ServedListings.{below_both, serves_mode, text-prefix, text-into}
 use Rattle.ptb_serve.proofs.ServedPrograms.{nothing_told, samples_loaded, serves_loaded}
 use Rattle.ptb_serve.proofs.WholeInput.{all_due, all_written, at_lines, cut_due, cut_silent, IsDue, ReportsWriter}
 use Rattle.ptb_serve.proofs.WholeInput.{reports_cut, unread_due}
@@ -49,19 +49,19 @@ module _ (p : StoredProgram) (request : Request) (seed runs : ℕ) (form : Form)
       → Serves (sample_reply p input request.rules seed runs form) old new (outcome_of (Err (reports_note fault)))
   cut_served (explores.Memory n) w =
       takes_beginning old new _ _ w.bytes
-      (text-beginning (report form (play p input request.rules)) due w.beginning w.rest w.split)
+      (text-prefix (report form (play p input request.rules)) due w.prefix w.rest w.split)
   cut_served (explores.Write n) w = takes_beginning old new _ _ w.bytes (text-into
-      (report form (play p input request.rules)) due w.beginning w.at w.rest w.part w.remainder w.split w.cut)
+      (report form (play p input request.rules)) due w.prefix w.at w.rest w.part w.remainder w.split w.cut)
 
   fewer_sampled : (fault : ExploreFault) → Writes (Err fault)
       → IsErrOf {T = ℕ} (Err (reports_note fault)) notes.OutOfMemory
       → SamplesFewerOf p input request.rules seed runs form old new
   fewer_sampled (explores.Memory n) w refused = record {
-    count = length w.beginning;
-    fewer = below_both w.beginning w.rest _ w.split w.some_left;
+    count = length w.prefix;
+    fewer = below_both w.prefix w.rest _ w.split w.some_left;
     bytes =
         subst (λ l. Appends old new (text (report form (play p input request.rules)) l))
-        (sym (ap (take (length w.beginning)) w.split ∙ take-append_seam w.beginning w.rest)) w.bytes;
+        (sym (ap (take (length w.prefix)) w.split ∙ take-append_seam w.prefix w.rest)) w.bytes;
   }
   fewer_sampled (explores.Write n) w refused = absurd cc
 

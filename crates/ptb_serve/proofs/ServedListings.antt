@@ -37,7 +37,7 @@ use Rattle.ptb_options.specs.declared.request.Mode.TheVariants as modes
 use Rattle.ptb_options.specs.declared.request.Request.{Request}
 use Rattle.ptb_serve.specs.LoadedPrograms.{ReadsInput, RefusesListIn, ServesProgram}
 use Rattle.ptb_machine.specs.PlainRuns.{IsUnreadable, input_limit}
-use Rattle.ptb_serve.specs.Replies.{Reply, refusal, reply_with, answers_under, front_note}
+use Rattle.ptb_serve.specs.Replies.{Reply, refusal, reply_with, share_prefix, front_note}
 use Rattle.ptb_serve.specs.Replies.{is_front, begins_runs, listed_runs, listing_reply, runs_reply}
 use Rattle.ptb_serve.specs.Replies.{all_reply, reply_in_mode}
 use Rattle.ptb_serve.specs.ServedRequests.{outcome_of, device_note, reports_note, IsPlainRun, IsUnloaded}
@@ -51,9 +51,9 @@ use Rattle.ptb_serve.proofs.ServedPrograms.{serves_loaded, takes_nothing, replie
 -- ---- nothing was written but the front of what is due
 
 module _ (report : Answers → List ℕ) where
-  pub text-beginning : (list done rest : List Answers) → list ≡ done ++ rest
+  pub text-prefix : (list done rest : List Answers) → list ≡ done ++ rest
       → Begins (text report done) (text report list)
-  text-beginning list done rest e = (text report rest, ap (text report) e ∙ flat_map-append report done rest)
+  text-prefix list done rest e = (text report rest, ap (text report) e ∙ flat_map-append report done rest)
 
   pub text-into : (list done : List Answers) (at : Answers) (rest : List Answers) (part unwritten : List ℕ)
       → list ≡ done ++ at ∷ rest → report at ≡ part ++ unwritten → Begins (text report done ++ part) (text report list)
@@ -106,7 +106,7 @@ module _ (game : Answers → Outcome Finish (List ℕ)) (under after : Option (L
       → IsUnloaded (Some note) → ⊥
   front_note-loaded note (inl e) h = subst (λ m. IsUnloaded (Some m)) e h
   front_note-loaded note (inr e) h =
-      elim (note_is (begins_runs game under) (is_front game (answers_under under) after) note e) [
+      elim (note_is (begins_runs game under) (is_front game (share_prefix under) after) note e) [
         | inl b ↦ subst (λ m. IsUnloaded (Some m)) b h
         | inr b ↦ subst (λ m. IsUnloaded (Some m)) b h
       ]
@@ -117,7 +117,7 @@ module _ (game : Answers → Outcome Finish (List ℕ)) (under after : Option (L
       → IsErrOf {T = ℕ} (Err note) other → ⊥
   front_note-other note other (inl e) memory beginning run h = memory cc
   front_note-other note other (inr e) memory beginning run h =
-      elim (note_is (begins_runs game under) (is_front game (answers_under under) after) note e) [
+      elim (note_is (begins_runs game under) (is_front game (share_prefix under) after) note e) [
         | inl b ↦ beginning cc
         | inr b ↦ run cc
       ]
@@ -128,7 +128,7 @@ module _ (game : Answers → Outcome Finish (List ℕ)) (under after : Option (L
   front_note-silent first form held note (inl e) =
       subst (λ m. SilentBy (modes.All under after first form) (Some m) held held) (sym e) tt
   front_note-silent first form held note (inr e) =
-      elim (note_is (begins_runs game under) (is_front game (answers_under under) after) note e) [
+      elim (note_is (begins_runs game under) (is_front game (share_prefix under) after) note e) [
         | inl b ↦ subst (λ m. SilentBy (modes.All under after first form) (Some m) held held) (sym b) (Appends-nil held)
         | inr b ↦ subst (λ m. SilentBy (modes.All under after first form) (Some m) held held) (sym b) (Appends-nil held)
       ]
@@ -207,7 +207,7 @@ module _ (p : StoredProgram) (rules : Rules) (under after : Option (List Marked)
     serves_unbegun input note (inr e) =
         subst (λ r. Serves r held held (outcome_of (Err note))) (sym (reply-refused input note e))
         (serves_refused input note
-        (note_is (begins_runs (game input) under) (is_front (game input) (answers_under under) after) note e))
+        (note_is (begins_runs (game input) under) (is_front (game input) (share_prefix under) after) note e))
 
     -- by the bytes of the input, of which the lines are those that were read
     module _ (c : List ℕ) where
@@ -229,8 +229,8 @@ module _ (p : StoredProgram) (rules : Rules) (under after : Option (List Marked)
 
     abbrev Writes : List (List ℕ) → Front → Result ℕ ExploreFault → Type 0
     Writes input f result =
-        WritesRuns (game input) (answers_under under) (report form (game input))
-        (runs_left (game input) (most_answers p input rules.limit) (answers_under under) (first_front after) first)
+        WritesRuns (game input) (share_prefix under) (report form (game input))
+        (runs_left (game input) (most_answers p input rules.limit) (share_prefix under) (first_front after) first)
         (first_front after) f old new result
 
     serves_written : (input : List (List ℕ)) (f : Front) (n : ℕ) → front_note (game input) under after ≡ None
@@ -244,27 +244,27 @@ module _ (p : StoredProgram) (rules : Rules) (under after : Option (List Marked)
         → Writes input f (Err fault)
         → Serves (reply input) old new (outcome_of (Err (reports_note fault)))
     serves_cut input f (explores.Memory n) h w =
-        takes_due input _ h w.bytes (text-beginning (report form (game input)) _ w.beginning w.rest w.split)
+        takes_due input _ h w.bytes (text-prefix (report form (game input)) _ w.prefix w.rest w.split)
     serves_cut input f (explores.Write n) h w =
         takes_due input _ h w.bytes
-        (text-into (report form (game input)) _ w.beginning w.at w.rest w.part w.remainder w.split w.cut)
+        (text-into (report form (game input)) _ w.prefix w.at w.rest w.part w.remainder w.split w.cut)
 
     writes_fewer : (input : List (List ℕ)) (f : Front) (fault : ExploreFault) → Writes input f (Err fault)
         → IsErrOf {T = ℕ} (Err (reports_note fault)) notes.OutOfMemory
         → ListsFewerOf p input rules under after first form old new
     writes_fewer input f (explores.Memory n) w refused = record {
-      count = length w.beginning;
-      fewer = below_both w.beginning w.rest _ w.split w.some_left;
+      count = length w.prefix;
+      fewer = below_both w.prefix w.rest _ w.split w.some_left;
       bytes =
           subst (λ l. Appends old new (text (report form (game input)) l))
-          (sym (ap (take (length w.beginning)) w.split ∙ take-append_seam w.beginning w.rest)) w.bytes;
+          (sym (ap (take (length w.prefix)) w.split ∙ take-append_seam w.prefix w.rest)) w.bytes;
     }
     writes_fewer input f (explores.Write n) w refused = absurd cc
 
     -- by the bytes of the input, of which the lines are those that were read, and an explorer that continued from its
     -- front
     module _ (c : List ℕ) (input : List (List ℕ)) (is : input ≡ input_lines c) (e : Exploration) (f : Front)
-        (same : e ≡ exploration p input rules (answers_under under) (first_front after) e.kept e.played)
+        (same : e ≡ exploration p input rules (share_prefix under) (first_front after) e.kept e.played)
         (h : front_note (game input) under after ≡ None) where
       abbrev WritesFrom : Exploration → Result ℕ ExploreFault → Type 0
       WritesFrom e result =

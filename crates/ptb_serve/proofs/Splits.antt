@@ -32,7 +32,7 @@ use Rattle.ptb_serve.specs.declared.note.Note.TheVariants as notes
 use Rattle.ptb_serve.specs.LoadedPrograms.{IsServedOn, ServesProgram}
 use Rattle.ptb_serve.specs.Replies.{Reply, shares_reply}
 use Rattle.ptb_serve.specs.ServedRequests.{SplitsFewerOf, Serves, device_note, outcome_of, reports_note}
-use Rattle.ptb_serve.proofs.ServedListings.{below_both, serves_mode, text-beginning, text-into}
+use Rattle.ptb_serve.proofs.ServedListings.{below_both, serves_mode, text-prefix, text-into}
 use Rattle.ptb_serve.proofs.Mismatches.{run_refuses_none}
 use Rattle.ptb_serve.proofs.ServedPrograms.{nothing_told, splits_loaded, serves_loaded, takes_nothing}
 use Rattle.ptb_serve.proofs.WholeInput.{all_due, all_written, at_lines, cut_due, cut_silent, IsDue, ReportsWriter}
@@ -79,20 +79,20 @@ module _ (p : StoredProgram) (request : Request) (n : ℕ) (form : Form) (input 
   cut_served : (f : Front) (fault : ExploreFault) → Writes f (Err fault)
       → Serves (shares_reply p input request.rules n form) old new (outcome_of (Err (reports_note fault)))
   cut_served f (explores.Memory k) w =
-      takes_beginning old new _ _ w.bytes (text-beginning line due w.beginning w.rest (sym left_due ∙ w.split))
+      takes_beginning old new _ _ w.bytes (text-prefix line due w.prefix w.rest (sym left_due ∙ w.split))
   cut_served f (explores.Write k) w =
       takes_beginning old new _ _ w.bytes
-      (text-into line due w.beginning w.at w.rest w.part w.remainder (sym left_due ∙ w.split) w.cut)
+      (text-into line due w.prefix w.at w.rest w.part w.remainder (sym left_due ∙ w.split) w.cut)
 
   fewer_split : (f : Front) (fault : ExploreFault) → Writes f (Err fault)
       → IsErrOf {T = ℕ} (Err (reports_note fault)) notes.OutOfMemory
       → SplitsFewerOf p input request.rules n form old new
   fewer_split f (explores.Memory k) w refused = record {
-    count = length w.beginning;
-    fewer = below_both w.beginning w.rest due (sym left_due ∙ w.split) w.some_left;
+    count = length w.prefix;
+    fewer = below_both w.prefix w.rest due (sym left_due ∙ w.split) w.some_left;
     bytes =
         subst (λ l. Appends old new (text line l))
-        (sym (ap (take (length w.beginning)) (sym left_due ∙ w.split) ∙ take-append_seam w.beginning w.rest)) w.bytes;
+        (sym (ap (take (length w.prefix)) (sym left_due ∙ w.split) ∙ take-append_seam w.prefix w.rest)) w.bytes;
   }
   fewer_split f (explores.Write k) w refused = absurd cc
 

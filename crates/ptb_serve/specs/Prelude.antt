@@ -15,6 +15,6 @@ pub use Rattle.ptb_serve.specs.ListMismatches.{IsUnbegun, items_of}
 pub use Rattle.ptb_serve.specs.LoadedPrograms.{ReadsInput, ServesProgram, ReportsFailures, ReportsMismatch, IsRunStatus}
 pub use Rattle.ptb_serve.specs.LoadedPrograms.{end_line, IsServed, IsServedIn, IsServedOn}
 pub use Rattle.ptb_serve.specs.Promises.{FailsLoudly, ReadsOnlyWhatIsAsked, Served}
-pub use Rattle.ptb_serve.specs.Replies.{answers_under, front_note}
+pub use Rattle.ptb_serve.specs.Replies.{share_prefix, front_note}
 pub use Rattle.ptb_serve.specs.ReplyLaws.{ReplyLaws}
 pub use Rattle.ptb_serve.specs.ServedRequests.{mode_of, outcome_of}

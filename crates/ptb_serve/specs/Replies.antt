@@ -96,9 +96,9 @@ program_reply memory b next = reply_or_refusal next memory (program_of_text memo
 
 -- a listing begins with the first run, or after a run that is named; it has the runs that begin with these answers, or
 -- all
-abbrev pub answers_under : Option (List Marked) → Answers
-answers_under None = []
-answers_under (Some list) = answers_of list
+abbrev pub share_prefix : Option (List Marked) → Answers
+share_prefix None = []
+share_prefix (Some list) = answers_of list
 
 -- a run must begin with them, and each bound that is stated must be that of its question
 abbrev pub begins_runs : (Answers → Outcome Finish (List ℕ)) → Option (List Marked) → Bool
@@ -119,12 +119,12 @@ note_of true false = Some notes.NoRun
 note_of true true = None
 
 abbrev pub front_note : (Answers → Outcome Finish (List ℕ)) → Option (List Marked) → Option (List Marked) → Option Note
-front_note game under after = note_of (begins_runs game under) (is_front game (answers_under under) after)
+front_note game under after = note_of (begins_runs game under) (is_front game (share_prefix under) after)
 
 -- the runs that a listing has, where none has more answers than `most`
 abbrev pub runs_due : (Answers → Outcome Finish (List ℕ)) → ℕ → Option (List Marked) → Option (List Marked) → Option ℕ
     → List Answers
-runs_due game most under after first = runs_left game most (answers_under under) (first_front after) first
+runs_due game most under after first = runs_left game most (share_prefix under) (first_front after) first
 
 -- their reports
 abbrev pub listed_runs : (Answers → Outcome Finish (List ℕ)) → ℕ → Option (List Marked) → Option (List Marked)

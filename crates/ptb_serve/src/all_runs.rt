@@ -3,7 +3,7 @@
 ghost use Rattle.std.specs.Prelude.{◌≡◌, ℕ, List, Option, None, IfErr, IfOk, IfSome, IsErrOf, OnOk, option_copied};
 ghost use Rattle.ptb_serve.specs.Prelude.{FailsAfterSome, FailsOnlyAfterSome, input_lines, play, exploration, play_of};
 ghost use Rattle.ptb_serve.specs.Prelude.{most_of, WritesRuns, report, Front, runs_left, mode_of, IsUnbegun};
-ghost use Rattle.ptb_serve.specs.Prelude.{ServesProgram, ReportsFailures, ReportsMismatch, answers_under, first_front};
+ghost use Rattle.ptb_serve.specs.Prelude.{ServesProgram, ReportsFailures, ReportsMismatch, share_prefix, first_front};
 ghost use Rattle.ptb_serve.specs.Prelude.{front_note, items_of, ReadsInput};
 
 use crate::attempt::Attempt;
@@ -169,7 +169,7 @@ fn explorer_from<'a>(
     listing: Listing,
 ) -> Result<Explorer<'a>, OpenFault>
     ensures explorer { IfOk result (λ e. e ≡ exploration program.now lines.now request.now.rules
-        (answers_under listing.entry.under.now) (first_front listing.entry.after.now) e.kept e.played) }
+        (share_prefix listing.entry.under.now) (first_front listing.entry.after.now) e.kept e.played) }
     ensures begun { OnOk result (front_note (play program.now lines.now request.now.rules)
         listing.entry.under.now listing.entry.after.now ≡ None) }
     ensures unbegun { IfErr result (IsUnbegun (play program.now lines.now request.now.rules)

@@ -11,13 +11,13 @@ none = without_bound (pos 0)
 pub loop-k-preserved : goal.loop-k-preserved
 loop-k-preserved c =
     let list = c.args.list.now in
-    let under = c.args.under.now in
+    let prefix = c.args.prefix.now in
     let k = c.loop-k.k in
     let list_fits : FitsSigned w16 (get_or list k none).answer = search rules in
-    let under_fits : FitsSigned w16 (get_or under k none).answer = search rules in
-    let same : (get_or list k none).answer ≡ (get_or under k none).answer =
-    sym (to_z-of_z list_fits) ∙ ap (to_z w16) c.if-list-k.false ∙ to_z-of_z under_fits in
-    same_answer list under k none c.loop-k-test.true (omega (arith, c.if-list-under.false)) same ∙ c.loop-k.invariant
+    let prefix_fits : FitsSigned w16 (get_or prefix k none).answer = search rules in
+    let same : (get_or list k none).answer ≡ (get_or prefix k none).answer =
+    sym (to_z-of_z list_fits) ∙ ap (to_z w16) c.if-list-k.false ∙ to_z-of_z prefix_fits in
+    same_answer list prefix k none c.loop-k-test.true (omega (arith, c.if-list-prefix.false)) same ∙ c.loop-k.invariant
 
-pub returns-then-list-under : goal.returns-then-list-under
-returns-then-list-under c = sym (too_short c.args.list.now c.args.under.now (omega (arith, c.if-list-under.true)))
+pub returns-then-list-prefix : goal.returns-then-list-prefix
+returns-then-list-prefix c = sym (too_short c.args.list.now c.args.prefix.now (omega (arith, c.if-list-prefix.true)))

@@ -5,5 +5,5 @@ use Rattle.ptb_machine.specs.RunTree.{begins_with}
 use Rattle.ptb_explore.proofs.item_lists.items_begin_with.Given as goal
 
 abbrev pub invariant-loop-k : goal.invariant-loop-k
-invariant-loop-k l = begins_with (answers_of (drop l.k l.list)) (answers_of (drop l.k l.under))
-    ≡ begins_with (answers_of l.list) (answers_of l.under)
+invariant-loop-k l = begins_with (answers_of (drop l.k l.list)) (answers_of (drop l.k l.prefix))
+    ≡ begins_with (answers_of l.list) (answers_of l.prefix)

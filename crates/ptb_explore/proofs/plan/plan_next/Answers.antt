@@ -38,7 +38,7 @@ returns-in_ok-replace_plan-in-Some-clause-plan c =
     let asked = c.args.asked.now in
     let i = c.in-Some.i in
     let place = subst (λ n. IsLastBelow n (answers_in asked) (bounds_in asked) i)
-    (sym (answers_length c.args.under.now)) c.in-Some.ensures.place in
+    (sym (answers_length c.args.prefix.now)) c.in-Some.ensures.place in
     let within : i < length asked = omega (arith, place.within, length-answers_in asked) in
     let answer : ℤ = (get_or asked i (record { answer = pos 0; bound = pos 0 })).answer in
     let fits : FitsSigned w16 answer = search rules in
@@ -63,7 +63,7 @@ returns-in_ok-replace_plan-in-Some-clause-bounds c =
 pub returns-in-None-clause-plan : goal.returns-in-None-clause-plan
 returns-in-None-clause-plan c =
     rw c.in-AtRun.is (subst (λ n. AreAtBounds n (answers_in c.args.asked.now) (bounds_in c.args.asked.now))
-    (sym (answers_length c.args.under.now)) c.in-None.ensures.place)
+    (sym (answers_length c.args.prefix.now)) c.in-None.ensures.place)
 
 pub returns-in-AtEnd-clause-plan : goal.returns-in-AtEnd-clause-plan
 returns-in-AtEnd-clause-plan c = search rules fits 50 depth 2
@@ -73,8 +73,8 @@ returns-in-AtEnd-clause-fresh c = search rules fits 50 depth 2
 
 pub returns-in_err-replay-in-AtStart-clause-refused : goal.returns-in_err-replay-in-AtStart-clause-refused
 returns-in_err-replay-in-AtStart-clause-refused c =
-    let has : HasPlan (answers_of c.args.under.now) c.args.position (answers_in c.args.asked.now)
-    (bounds_in c.args.asked.now) = rw c.in-AtStart.is (answers_of c.args.under.now, 0, (refl, refl)) in
+    let has : HasPlan (answers_of c.args.prefix.now) c.args.position (answers_in c.args.asked.now)
+    (bounds_in c.args.asked.now) = rw c.in-AtStart.is (answers_of c.args.prefix.now, 0, (refl, refl)) in
     on_err_always _ has
 
 pub returns-in_err-replace_plan-in-Some-clause-refused : goal.returns-in_err-replace_plan-in-Some-clause-refused
@@ -82,8 +82,8 @@ returns-in_err-replace_plan-in-Some-clause-refused c =
     let answers = answers_in c.args.asked.now in
     let bounds = bounds_in c.args.asked.now in
     let i = c.in-Some.i in
-    let place = subst (λ n. IsLastBelow n answers bounds i) (sym (answers_length c.args.under.now))
+    let place = subst (λ n. IsLastBelow n answers bounds i) (sym (answers_length c.args.prefix.now))
     c.in-Some.ensures.place in
-    let has : HasPlan (answers_of c.args.under.now) c.args.position answers bounds =
+    let has : HasPlan (answers_of c.args.prefix.now) c.args.position answers bounds =
     rw c.in-AtRun.is (take i answers ++ (slice_index_or answers i (pos 0) +ℤ pos 1) ∷ [], i, (place, refl)) in
     on_err_always _ has

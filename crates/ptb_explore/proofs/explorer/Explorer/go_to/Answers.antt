@@ -21,7 +21,7 @@ invariant_of-self c =
     let ran = c.in_ok-check_run.ensures in
     let begins = ap (λ l. begins_with (answers_of c.args.list.now) (answers_of l)) (sym c.deref.ensures.value)
     ∙ sym c.items_begin_with.ensures ∙ c.if-not-items_begin_with.false in
-    at_run e.runner c.check_run.new.self c.check_run.ensures.same c.args.list.now e.under.items ran.run ran.answers
+    at_run e.runner c.check_run.new.self c.check_run.ensures.same c.args.list.now e.prefix.items ran.run ran.answers
     ran.bounds begins ran.copies
 
 pub returns : goal.returns
@@ -29,7 +29,7 @@ returns c =
     let e = c.self.inside in
     let ran = c.in_ok-check_run.ensures in
     let new = c.check_run.new.self in
-    let under = answers_of e.under.items in
+    let under = answers_of e.prefix.items in
     let kept = kept_runs (answers_in new.report.asked.items) new.copies.kept.items in
     let is : Exploration = exploration new.player new.lines.now new.rules under
     (At (answers_in new.report.asked.items)) kept new.played in
@@ -71,7 +71,7 @@ pub returns-in_err-check_run-clause-mismatch : goal.returns-in_err-check_run-cla
 returns-in_err-check_run-clause-mismatch c = λ under is m fault.
     let e = c.self.inside in
     let r = e.runner in
-    let begins : begins_with (answers_of c.args.list.now) (answers_of e.under.items) ≡ true =
+    let begins : begins_with (answers_of c.args.list.now) (answers_of e.prefix.items) ≡ true =
     ap (λ l. begins_with (answers_of c.args.list.now) (answers_of l)) (sym c.deref.ensures.value)
     ∙ sym c.items_begin_with.ensures ∙ c.if-not-items_begin_with.false in
     subst (λ (x : Exploration). answers_of under ≡ x.under

@@ -26,7 +26,7 @@ returns-in-Ok-true c =
     let old = e.runner in
     let new = c.report_next-found.new.self in
     let r = new.report in
-    let under = answers_of e.under.items in
+    let under = answers_of e.prefix.items in
     let runs : List KeptRun = kept_runs (answers_in r.asked.items) new.copies.kept.items in
     let before : List KeptRun = kept_runs (answers_in old.report.asked.items) old.copies.kept.items in
     let was = seen old under (front_at e.position (answers_in old.report.asked.items)) before old.played in
@@ -58,7 +58,7 @@ pub invariant_of-self-in-Err : goal.invariant_of-self-in-Err
 invariant_of-self-in-Err c =
     let e = c.self.inside in
     let new = c.report_next-found.new.self in (
-      stays e.runner new c.in-Err.ensures.same (answers_of e.under.items) e.position c.in-Err.ensures.asked
+      stays e.runner new c.in-Err.ensures.same (answers_of e.prefix.items) e.position c.in-Err.ensures.asked
           c.self.invariant.0,
       none_at new.player new.lines.now new.rules e.position new.report c.clear-in-Err.new.self.kept.items
           c.clear-in-Err.ensures,
@@ -68,7 +68,7 @@ pub returns-in-Err : goal.returns-in-Err
 returns-in-Err c =
     let e = c.self.inside in
     let old = e.runner in
-    let under = answers_of e.under.items in
+    let under = answers_of e.prefix.items in
     let ended : IsLast (play_of c.args.self.now) c.args.self.now.under c.args.self.now.front → IsLast (game_of old)
     (answers_of c.deref.result.now) (front_at e.position (answers_in old.report.asked.items)) =
     (λ last. rw c.deref.ensures.value (subst (λ (x : Exploration). IsLast (play_of x) x.under x.front)

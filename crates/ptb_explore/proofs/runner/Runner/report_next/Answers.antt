@@ -24,21 +24,22 @@ returns-in-None-clause-next c =
     let input = c.args.self.now.lines.now in
     let rules = c.args.self.now.rules in
     let report = c.args.self.now.report in
-    let plans : PlansNext (answers_of c.args.under.now) c.args.position (answers_in report.asked.items)
+    let plans : PlansNext (answers_of c.args.prefix.now) c.args.position (answers_in report.asked.items)
     (bounds_in report.asked.items) (recorded c.plan_next.new.chooser) None =
     rw (← c.deref.ensures.value, ← c.in-None.is) c.in_ok-plan_next.ensures.plan in
     last_plan (play p input rules) (most_answers p input rules.limit) (c.run_laws.ensures.reads p input rules)
-    (answers_of c.args.under.now) c.args.position (answers_in report.asked.items) (recorded c.plan_next.new.chooser)
+    (answers_of c.args.prefix.now) c.args.position (answers_in report.asked.items) (recorded c.plan_next.new.chooser)
     (bounds_in report.asked.items) c.requires.position plans
 
 -- the plan that comes next
-planned : (c : In-Some) → PlansNext (answers_of c.args.under.now) c.args.position
+planned : (c : In-Some) → PlansNext (answers_of c.args.prefix.now) c.args.position
     (answers_in c.args.self.now.report.asked.items) (bounds_in c.args.self.now.report.asked.items)
     (recorded c.plan_next.new.chooser) (Some c.in-Some.common)
 planned c = rw (← c.deref.ensures.value, ← c.in-Some.is) c.in_ok-plan_next.ensures.plan
 
 next_is : (c : In-Some)
-    → IsPlan (play c.args.self.now.player c.args.self.now.lines.now c.args.self.now.rules) (answers_of c.args.under.now)
+    → IsPlan (play c.args.self.now.player c.args.self.now.lines.now c.args.self.now.rules)
+    (answers_of c.args.prefix.now)
     (front_at c.args.position (answers_in c.args.self.now.report.asked.items)) (recorded c.plan_next.new.chooser)
 next_is c =
     let p = c.args.self.now.player in
@@ -46,12 +47,13 @@ next_is c =
     let rules = c.args.self.now.rules in
     let report = c.args.self.now.report in
     next_plan (play p input rules) (most_answers p input rules.limit) (c.run_laws.ensures.reads p input rules)
-    (answers_of c.args.under.now) c.args.position (answers_in report.asked.items) (recorded c.plan_next.new.chooser)
+    (answers_of c.args.prefix.now) c.args.position (answers_in report.asked.items) (recorded c.plan_next.new.chooser)
     (bounds_in report.asked.items) c.in-Some.common c.requires.position (planned c)
 
 -- so some run is left
 none_last : {P : Type 0} (c : In-Some)
-    → IsLast (play c.args.self.now.player c.args.self.now.lines.now c.args.self.now.rules) (answers_of c.args.under.now)
+    → IsLast (play c.args.self.now.player c.args.self.now.lines.now c.args.self.now.rules)
+    (answers_of c.args.prefix.now)
     (front_at c.args.position (answers_in c.args.self.now.report.asked.items)) → P
 none_last c last =
     let p = c.args.self.now.player in
@@ -59,7 +61,7 @@ none_last c last =
     let rules = c.args.self.now.rules in
     let report = c.args.self.now.report in
     plan_left (play p input rules) (most_answers p input rules.limit) (c.run_laws.ensures.reads p input rules)
-    (answers_of c.args.under.now) (front_at c.args.position (answers_in report.asked.items))
+    (answers_of c.args.prefix.now) (front_at c.args.position (answers_in report.asked.items))
     (recorded c.plan_next.new.chooser) (next_is c) last
 
 pub report_plan-requires-clause-opens : goal.report_plan-requires-clause-opens
@@ -75,7 +77,7 @@ returns-in_ok-report_plan-in-Some-clause-next c =
     let run = c.in_ok-report_plan-in-Some.ensures.ends in (
       record { outcome = run.outcome; bounds_are = run.bounds_are },
       plan_ends (play p input rules) (most_answers p input rules.limit) (c.run_laws.ensures.reads p input rules)
-          (answers_of c.args.under.now) (front_at c.args.position (answers_in report.asked.items))
+          (answers_of c.args.prefix.now) (front_at c.args.position (answers_in report.asked.items))
           (recorded c.plan_next.new.chooser) _ _ _ next run,
     )
 
@@ -85,7 +87,7 @@ report_plan-requires-clause-resumes c =
     let plan = recorded c.plan_next.new.chooser in
     let plans = planned (goal.at.report_plan-requires-clause-resumes c).In-Some in
     let near = next_agrees (play c.args.self.now.player c.args.self.now.lines.now c.args.self.now.rules)
-    (answers_of c.args.under.now) c.args.position (answers_in report.asked.items) plan
+    (answers_of c.args.prefix.now) c.args.position (answers_in report.asked.items) plan
     (bounds_in report.asked.items) c.in-Some.common c.requires.position plans in
     let bounds : take c.in-Some.common (bounds_in c.plan_next.new.chooser.asked.items)
     ≡ take c.in-Some.common (bounds_in report.asked.items) =
@@ -103,7 +105,7 @@ returns-in_ok-report_plan-in-Some-clause-played c =
     let plan = recorded c.plan_next.new.chooser in
     let plans = planned (goal.at.returns-in_ok-report_plan-in-Some-clause-played c).In-Some in
     let run = c.in_ok-report_plan-in-Some.ensures.ends in
-    next_played c.args.self.now.player c.args.self.now.lines.now c.args.self.now.rules (answers_of c.args.under.now)
+    next_played c.args.self.now.player c.args.self.now.lines.now c.args.self.now.rules (answers_of c.args.prefix.now)
     c.args.position report plan run.ones _ c.in-Some.common c.args.self.now.copies.kept.items _ _ _ plans
     c.requires.copies run.answers_are c.in_ok-report_plan-in-Some.ensures.played
 
@@ -117,13 +119,13 @@ returns-in_err-plan_next c = record {
       let input = c.args.self.now.lines.now in
       let rules = c.args.self.now.rules in
       let report = c.args.self.now.report in
-      let has : HasPlan (answers_of c.args.under.now) c.args.position (answers_in report.asked.items)
+      let has : HasPlan (answers_of c.args.prefix.now) c.args.position (answers_in report.asked.items)
       (bounds_in report.asked.items) = rw (← c.deref.ensures.value) c.in_err-plan_next.ensures.refused in
       let next = next_plan (play p input rules) (most_answers p input rules.limit)
-      (c.run_laws.ensures.reads p input rules) (answers_of c.args.under.now) c.args.position
+      (c.run_laws.ensures.reads p input rules) (answers_of c.args.prefix.now) c.args.position
       (answers_in report.asked.items) has.0 (bounds_in report.asked.items) has.1 c.requires.position has.2 in
       plan_left (play p input rules) (most_answers p input rules.limit) (c.run_laws.ensures.reads p input rules)
-      (answers_of c.args.under.now) (front_at c.args.position (answers_in report.asked.items)) has.0 next last;
+      (answers_of c.args.prefix.now) (front_at c.args.position (answers_in report.asked.items)) has.0 next last;
   copies = IfOk-from_err _ _ c.from_residual.ensures.0;
   played = IfOk-from_err _ _ c.from_residual.ensures.0;
   rises = omega arith;
