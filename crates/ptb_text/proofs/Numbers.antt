@@ -9,7 +9,7 @@ use mir.Syntax.{w16}
 use mir.Val.{to_z, of_z, SFits}
 use Rattle.std.proofs.lemmas.Int.{to_z-of_z}
 use Rattle.std.proofs.lemmas.Option.{slice_get-get_or}
-use Rattle.ptb_text.specs.Statements.{Statements, text_under, number_above}
+use Rattle.ptb_text.specs.Statements.{Statements, text_of_number, number_above}
 use Rattle.ptb_text.specs.NumberOrder.{IsGapFor, IsAt, statement_at}
 use Rattle.ptb_text.proofs.Entries.{text_at-gap, number_after-place, number_after-gap}
 
@@ -27,15 +27,15 @@ is_whole r n m fits is = converted r n m (simp to_z-of_z at is)
 
 -- and under one that couldn't be there is nothing
 unconverted : {E : Type 0} (p : Statements) (r : Result ℕ E) (n : ℤ) (v : ℕ) → SFits w16 n
-    → OkIff r (FitsUnsignedBits 16 n) v → result_ok r ≡ None → text_under p n ≡ None
+    → OkIff r (FitsUnsignedBits 16 n) v → result_ok r ≡ None → text_of_number p n ≡ None
 unconverted p (Ok x) n v fits is e = cc
 unconverted p (Err x) (pos k) v fits is e = absurd (is (omega (arith, fits)))
 unconverted p (Err x) (negsuc k) v fits is e = refl
 
-pub text_under-unconverted : {E : Type 0} (p : Statements) (r : Result ℕ E) (n : ℤ) → SFits w16 n
+pub text_of_number-unconverted : {E : Type 0} (p : Statements) (r : Result ℕ E) (n : ℤ) → SFits w16 n
     → OkIff r (FitsUnsignedBits 16 (to_z w16 (of_z w16 n))) (nat_abs (to_z w16 (of_z w16 n))) → result_ok r ≡ None
-    → text_under p n ≡ None
-text_under-unconverted p r n fits is e = unconverted p r n _ fits (simp to_z-of_z at is) e
+    → text_of_number p n ≡ None
+text_of_number-unconverted p r n fits is e = unconverted p r n _ fits (simp to_z-of_z at is) e
 
 -- where nothing is answered nothing is to be shown
 pub on_none : {T : Type 0} (X : Type 0) (o : Option T) → o ≡ None → OnSome o X
@@ -45,10 +45,10 @@ pub if_none : {T : Type 0} (P : T → Type 0) (o : Option T) → o ≡ None → 
 if_none P o e = subst (λ (x : Option _). IfSome x P) (sym e) tt
 
 -- a search that finds nothing
-pub text_under-absent : (p : Statements) (n : ℤ) (m : ℕ) (r : Result ℕ ℕ) → n ≡ pos m → IfErr r (IsGapFor p m)
-    → result_ok r ≡ None → text_under p n ≡ None
-text_under-absent p n m (Ok i) is gap e = cc
-text_under-absent p n m (Err i) is gap e = ap (text_under p) is ∙ text_at-gap p m i gap
+pub text_of_number-absent : (p : Statements) (n : ℤ) (m : ℕ) (r : Result ℕ ℕ) → n ≡ pos m → IfErr r (IsGapFor p m)
+    → result_ok r ≡ None → text_of_number p n ≡ None
+text_of_number-absent p n m (Ok i) is gap e = cc
+text_of_number-absent p n m (Err i) is gap e = ap (text_of_number p) is ∙ text_at-gap p m i gap
 
 -- and one that does
 pub IsAt-found : (p : Statements) (m i : ℕ) (r : Result ℕ ℕ) → IfOk r (IsAt p m) → result_ok r ≡ Some i → IsAt p m i
@@ -71,8 +71,8 @@ look_up-found p n m (Some i) r is at e =
     ∙ ap Some (sym is)
 
 pub look_up-absent : (p : Statements) (n : ℤ) (m : ℕ) (o : Option ℕ) (r : Result ℕ ℕ) → n ≡ pos m
-    → IfErr r (IsGapFor p m) → o ≡ result_ok r → IsNone o → text_under p n ≡ None
-look_up-absent p n m None r is gap e none = text_under-absent p n m r is gap (sym e)
+    → IfErr r (IsGapFor p m) → o ≡ result_ok r → IsNone o → text_of_number p n ≡ None
+look_up-absent p n m None r is gap e none = text_of_number-absent p n m r is gap (sym e)
 look_up-absent p n m (Some i) r is gap e none = cc
 
 -- ---- the next number

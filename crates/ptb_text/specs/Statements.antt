@@ -4,7 +4,7 @@
 --     text_at p n                                    what the map has at number n
 --     first_number p, number_after p n               the least number; the least number above n
 --     with_text p n text, without_number p n         the map with another text at n; with none
---     text_under p z, number_above p z               the same for a number with a sign
+--     text_of_number p z, number_above p z           the same for a number with a sign
 --     cost p                                         what the program takes of the memory
 --     StoredProgram, size_of p                       a program with its memory, and the memory that it leaves
 --     IsSound p, IsText t                            what every stored program keeps, and each of its texts
@@ -44,9 +44,9 @@ number_after [] n = None
 number_after (s ∷ p) n = if nat_lt n s.0 then Some s.0 else number_after p n
 
 -- the text under a number with a sign: below 0 there is none
-abbrev pub text_under : Statements → ℤ → Option (List ℕ)
-text_under p (pos n) = text_at p n
-text_under p (negsuc n) = None
+abbrev pub text_of_number : Statements → ℤ → Option (List ℕ)
+text_of_number p (pos n) = text_at p n
+text_of_number p (negsuc n) = None
 
 abbrev pub number_above : Statements → ℤ → Option ℕ
 number_above p (pos n) = number_after p n

@@ -3,8 +3,8 @@
 ghost use Rattle.std.specs.Prelude.{◌≡◌, ℕ, ℤ, ◌+◌, ◌<◌, ◌≤◌, ◌^◌, List, [], Some, None, length, IfOk, IfErr, IsSome};
 ghost use Rattle.std.specs.Prelude.{IsNone, IfSome, OnSome, option_map, pos, ◌<ℤ◌, IsTrue, ◌↔◌, slice_get, take};
 ghost use Rattle.ptb_text.specs.Prelude.{option_copied, IsMemorySize, IsSound, IsText, cost, first_number};
-ghost use Rattle.ptb_text.specs.Prelude.{number_above, size_of, text_limit, text_under, number_limit, IsAt, IsGapFor};
-ghost use Rattle.ptb_text.specs.Prelude.{statement_at, texts_length};
+ghost use Rattle.ptb_text.specs.Prelude.{number_above, size_of, text_limit, text_of_number, number_limit, IsAt};
+ghost use Rattle.ptb_text.specs.Prelude.{IsGapFor, statement_at, texts_length};
 
 use std::alloc::Global;
 use std::marker::Model;
@@ -106,7 +106,7 @@ impl Program {
     ///
     /// For users of the library: the program doesn't call it.
     pub fn line(&self, number: i16) -> Option<&[u8]>
-        ensures value { option_copied result ≡ text_under self.now.lines number }
+        ensures value { option_copied result ≡ text_of_number self.now.lines number }
         ensures number { OnSome result (pos 0 <ℤ number) }
         ensures text { IfSome result (λ t. IsText t.now) }
     {
@@ -119,7 +119,7 @@ impl Program {
     pub fn statement_index(&self, number: i16) -> Option<usize>
         ensures found { IfSome result (λ index.
             option_map (λ s. s.0) (statement_at self.now.lines index) ≡ Some number) }
-        ensures absent { IsNone result → text_under self.now.lines number ≡ None }
+        ensures absent { IsNone result → text_of_number self.now.lines number ≡ None }
         ensures sound { IsSome result → IsSound self.now }
     {
         let number = u16::try_from(number).ok()?;
@@ -145,7 +145,7 @@ impl Program {
     /// For users of the library: the program doesn't call it.
     pub fn first(&self) -> Option<i16>
         ensures value { result ≡ option_map pos (first_number self.now.lines) }
-        ensures text { IfSome result (λ n. IsSome (text_under self.now.lines n)) }
+        ensures text { IfSome result (λ n. IsSome (text_of_number self.now.lines n)) }
         ensures number { IfSome result (λ n. pos 0 <ℤ n) }
     {
         self.number_at(0)
@@ -156,7 +156,7 @@ impl Program {
     /// For users of the library: the program doesn't call it.
     pub fn after(&self, number: i16) -> Option<i16>
         ensures value { result ≡ option_map pos (number_above self.now.lines number) }
-        ensures text { IfSome result (λ n. IsSome (text_under self.now.lines n)) }
+        ensures text { IfSome result (λ n. IsSome (text_of_number self.now.lines n)) }
         ensures number { IfSome result (λ k. pos 0 <ℤ k) }
     {
         let Ok(number) = u16::try_from(number) else {
@@ -202,7 +202,7 @@ impl Program {
     // The number of the statement at this index, if there is one.
     fn number_at(&self, at: usize) -> Option<i16>
         ensures value { result ≡ option_map (λ s. pos s.0) (slice_get self.now.lines at) }
-        ensures text { IfSome result (λ n. IsSome (text_under self.now.lines n)) }
+        ensures text { IfSome result (λ n. IsSome (text_of_number self.now.lines n)) }
         ensures number { IfSome result (λ n. pos 0 <ℤ n) }
     {
         let statement = self.statements.get(at)?;
