@@ -177,10 +177,10 @@ pub ReadsOn_whole : (wanted : ℕ) (m : InputNow) (line : List ℕ) (b : InputSt
     → TakesLine m.state line b → ReadsOn wanted m (line ∷ []) (record m { state = b })
 ReadsOn_whole wanted m line b kept takes =
     let same : record m.state { piece = None; is_given = false; waiting = b.waiting } ≡ b =
-    ap (λ p. record m.state { piece = p; is_given = false; waiting = b.waiting }) (sym takes.unbegun)
+    ap (λ p. record m.state { piece = p; is_given = false; waiting = b.waiting }) (sym takes.unstarted)
     ∙ ap (λ t. record m.state { is_given = t; waiting = b.waiting }) (sym kept) ∙ sym takes.rest in
     let cut : Cuts m.state.piece takes.front (line ∷ []) None =
-    subst (λ p. Cuts p takes.front (line ∷ []) None) (sym takes.unbegun) takes.cut in
+    subst (λ p. Cuts p takes.front (line ∷ []) None) (sym takes.unstarted) takes.cut in
     subst (λ (s : InputState). ReadsOn wanted m (line ∷ []) (record m { state = s })) same
     (ReadsOn_cut wanted m false None takes.front b.waiting (line ∷ []) kept takes.whole cut (omega (arith, takes.some))
     (asked_one m.state.end m.state.is_given false))

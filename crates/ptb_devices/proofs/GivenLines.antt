@@ -172,17 +172,17 @@ module _ (m n : InputNow) (reads : ReadsOn 1 m [] n) where
     -- and none can be given
     pub none_more : (b : InputState) (t : Bool) → b ≡ record n.state { is_given = t } → t ≡ false
         → (IsSome n.state.piece → ⊥) → most_lines b ≡ 0
-    none_more b t is false_is unbegun = ap most_lines (is ∙ at_end-is t ∙ ap at_end false_is)
-        ∙ most_at n.state.piece unbegun
+    none_more b t is false_is unstarted = ap most_lines (is ∙ at_end-is t ∙ ap at_end false_is)
+        ∙ most_at n.state.piece unstarted
 
     -- else no line is left
     pub none_given : (b : InputState) (t : Bool) → b ≡ record n.state { is_given = t } → t ≡ false
         → (IsSome n.state.piece → ⊥)
         → ReadsOn (asked b) m [] (record n { state = b }) × NoneLeft (known_lines (record n { state = b }))
-    none_given b t is false_is unbegun =
+    none_given b t is false_is unstarted =
         let all : b ≡ at_end false = is ∙ at_end-is t ∙ ap at_end false_is in
         subst (λ (s : InputState). ReadsOn (asked s) m [] (record n { state = s })
         × NoneLeft (known_lines (record n { state = s }))) (sym all) (
           subst (λ (s : InputState). ReadsOn 1 m [] (record n { state = s })) at_end-state reads,
-          none_at n.state.piece n.bytes unbegun,
+          none_at n.state.piece n.bytes unstarted,
         )

@@ -114,7 +114,7 @@ pub record TakesLine (a : InputState) (line : List ℕ) (b : InputState) : Type 
   pub front : List ℕ
   pub whole : a.waiting ≡ front ++ b.waiting
   pub some : 0 < length front
-  pub unbegun : a.piece ≡ None
+  pub unstarted : a.piece ≡ None
   pub cut : IsLine line front
   pub rest : b ≡ record a { waiting = b.waiting }
 

@@ -16,7 +16,7 @@ pub(crate) const LINE_LIMIT: usize = 255;
 #[derive(Drop)]
 pub(crate) struct LineCutter {
     kept: ArrayVec<u8, LINE_LIMIT>,
-    has_begun: bool,
+    has_started: bool,
 }
 
 impl Model for LineCutter {
@@ -25,9 +25,9 @@ impl Model for LineCutter {
 
     ghost Value = { Option (List ℕ) };
 
-    ghost view = { λ c. begun_piece c.has_begun c.kept.items };
+    ghost view = { λ c. begun_piece c.has_started c.kept.items };
 
-    ghost invariant = { λ c. (c.has_begun ≡ false → c.kept.items ≡ []) × IsClean c.kept.items };
+    ghost invariant = { λ c. (c.has_started ≡ false → c.kept.items ≡ []) × IsClean c.kept.items };
 }
 
 impl LineCutter {
@@ -37,15 +37,15 @@ impl LineCutter {
     {
         LineCutter {
             kept: ArrayVec::new(),
-            has_begun: false,
+            has_started: false,
         }
     }
 
     /// Whether a piece has begun.
-    pub(crate) fn has_begun(&self) -> bool
+    pub(crate) fn has_started(&self) -> bool
         ensures { IsTrue result ↔ IsSome self.now }
     {
-        self.has_begun
+        self.has_started
     }
 
     /// What is kept of the piece.
@@ -61,14 +61,14 @@ impl LineCutter {
         ensures { self.new ≡ None }
     {
         self.kept.clear();
-        self.has_begun = false;
+        self.has_started = false;
     }
 
     /// Takes one byte more of the line.
     pub(crate) fn take(&mut self, byte: u8)
         ensures { self.new ≡ Some (with_byte (kept_bytes self.old) byte) }
     {
-        self.has_begun = true;
+        self.has_started = true;
         keep(&mut self.kept, byte);
     }
 

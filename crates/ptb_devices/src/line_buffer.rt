@@ -113,7 +113,7 @@ impl LineBuffer {
             TakesWhole self.old result new)) }
         ensures short { IfSome result (λ bytes. length bytes.now ≤ line_limit) }
     {
-        if self.cutter.has_begun() {
+        if self.cutter.has_started() {
             return None;
         }
         let from = self.from;
@@ -149,7 +149,7 @@ impl LineBuffer {
         ensures begun { IsTrue result ↔ IsSome self.old.piece }
         ensures given { self.new ≡ record self.old { is_given = result } }
     {
-        self.is_given = self.cutter.has_begun();
+        self.is_given = self.cutter.has_started();
         self.is_given
     }
 

@@ -73,7 +73,7 @@ fn push_whole(
 fn push_last(alloc: Global, lines: &mut Vec<Line>, cutter: &LineCutter) -> Result<(), AllocError>
     ensures { OnOk result (lines.new.items ≡ lines.old.items ++ line_of_piece cutter.now) }
 {
-    if cutter.has_begun() {
+    if cutter.has_started() {
         lines.push(Line::from_kept(alloc, cutter.kept())?)?;
     }
     Ok(())

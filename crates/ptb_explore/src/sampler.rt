@@ -175,7 +175,7 @@ fn write_runs<W: Write>(
 
 // What plays the runs of a sample, before the first of them. Its exits are apart from those of `write_sample`,
 // which owns the sampler: each exit of a body is proved with all that the body owns.
-fn begun(alloc: Global, program: &Program, seed: u64) -> Result<Sampler<'_>, AllocError>
+fn start_sampler(alloc: Global, program: &Program, seed: u64) -> Result<Sampler<'_>, AllocError>
     ensures player { IfOk result (λ s. s.player ≡ program.now) }
     ensures chooser { IfOk result (λ s.
         s.chooser ≡ record { first = generator_of seed; bounds = [] }) }
@@ -228,7 +228,7 @@ pub fn write_sample<W: Write>(
     if runs == 0 {
         return Ok(());
     }
-    match begun(alloc, program, seed) {
+    match start_sampler(alloc, program, seed) {
         Ok(mut sampler) => write_runs(alloc, &mut sampler, lines, rules, sample, writer),
         Err(_) => Err(ExploreFault::Memory(0)),
     }

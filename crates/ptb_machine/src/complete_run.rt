@@ -56,14 +56,14 @@ pub(crate) fn run_to_end<C: Chooser, S: Screen, L: LineSource>(
         (run_devices chooser.old screen.old source.old)
         (run_devices chooser.new screen.new source.new) result }
 {
-    let (player, mut machine) = begun(alloc, program)?;
+    let (player, mut machine) = start_run(alloc, program)?;
     let mut io = CommandIo::new(chooser, screen, source, true, rules);
     play(&player, &mut machine, &mut io)
 }
 
 // A player of a program, and a machine at the beginning of its run. `run` owns them and lends them to `play`, which
 // has the loop: each exit of a body is proved with all that the body owns.
-fn begun(alloc: Global, program: &Program) -> Result<(Player<'_>, Machine), AllocError>
+fn start_run(alloc: Global, program: &Program) -> Result<(Player<'_>, Machine), AllocError>
     ensures player { IfOk result (λ b. b.0 ≡ program.now) }
     ensures first { IfOk result (λ b. IsAtFirst b.0 b.1) }
 {

@@ -19,7 +19,7 @@ use Rattle.ptb_explore.specs.Openings.{IsRefusedRun, IsRunUnder}
 use Rattle.ptb_machine.specs.RunTree.{begins_with}
 use Rattle.ptb_serve.specs.declared.note.Note.{Note}
 use Rattle.ptb_serve.specs.declared.note.Note.TheVariants as notes
-use Rattle.ptb_serve.specs.ListMismatches.{IsUnbegun, items_of}
+use Rattle.ptb_serve.specs.ListMismatches.{IsUnstarted, items_of}
 use Rattle.ptb_serve.specs.Replies.{share_prefix, front_note, is_front, begins_runs, note_of}
 
 -- an option of items has their answers
@@ -125,29 +125,29 @@ module _ (game : Answers → Outcome Finish (List ℕ)) where
 
   refused_share : (under after : Option (List Marked)) (m : Mismatch)
       → (IsMarkedBeginning game (items_of under) → ⊥) → IsItemMismatch game (items_of under) m
-      → IsUnbegun game under after (NoBeginning m)
+      → IsUnstarted game under after (NoBeginning m)
   refused_share None after m none why = absurd (no_misfit m why)
   refused_share (Some under) after m none why = (no_share under after none, why)
 
   refused_run : (under after : Option (List Marked)) (m : Mismatch) → IsMarkedBeginning game (items_of under)
       → IfSome after (λ list. IsRunUnder game (items_of under) list → ⊥) → IsRefusedRun game (items_of under) after m
-      → IsUnbegun game under after (NotARun m)
+      → IsUnstarted game under after (NotARun m)
   refused_run under None m b none why = absurd why
   refused_run None (Some list) m b none why =
       (no_front None list refl (λ r h. none (record { run = r; begins = h })), why)
   refused_run (Some under) (Some list) m b none why =
       (no_front (Some under) list (share_true under b) (λ r h. none (record { run = r; begins = h })), why)
 
-  pub unbegun_at : {T : Type 0} (under after : Option (List Marked)) (r : Result T OpenFault)
+  pub unstarted_at : {T : Type 0} (under after : Option (List Marked)) (r : Result T OpenFault)
       → ((m : Mismatch) → IsErrOf r (NoBeginning m) → IsMarkedBeginning game (items_of under) → ⊥)
       → ((m : Mismatch) → IsErrOf r (NoBeginning m) → IsItemMismatch game (items_of under) m)
       → ((m : Mismatch) → IsErrOf r (NotARun m) → IsMarkedBeginning game (items_of under)
       × IfSome after (λ list. IsRunUnder game (items_of under) list → ⊥))
       → ((m : Mismatch) → IsErrOf r (NotARun m) → IsRefusedRun game (items_of under) after m)
-      → IfErr r (IsUnbegun game under after)
-  unbegun_at under after (Ok x) share misfit run why = tt
-  unbegun_at under after (Err (NoBeginning m)) share misfit run why =
+      → IfErr r (IsUnstarted game under after)
+  unstarted_at under after (Ok x) share misfit run why = tt
+  unstarted_at under after (Err (NoBeginning m)) share misfit run why =
       refused_share under after m (share m refl) (misfit m refl)
-  unbegun_at under after (Err (NotARun m)) share misfit run why =
+  unstarted_at under after (Err (NotARun m)) share misfit run why =
       refused_run under after m (run m refl).0 (run m refl).1 (why m refl)
-  unbegun_at under after (Err Memory) share misfit run why = tt
+  unstarted_at under after (Err Memory) share misfit run why = tt

@@ -26,7 +26,7 @@ use Rattle.ptb_serve.specs.declared.note.Note.TheVariants as notes
 use Rattle.ptb_explore.specs.declared.fault.OpenFault.{OpenFault}
 use Rattle.ptb_explore.specs.declared.fault.OpenFault.TheVariants.{Memory, NoBeginning, NotARun}
 use Rattle.ptb_serve.specs.declared.list_mismatch.ListMismatch.TheVariants.{Under, After}
-use Rattle.ptb_serve.specs.ListMismatches.{IsUnbegun, mismatch_note, unbegun_attempt}
+use Rattle.ptb_serve.specs.ListMismatches.{IsUnstarted, mismatch_note, unstarted_attempt}
 use Rattle.ptb_serve.specs.LoadedPrograms.{IsServedOn, ServesProgram, ReportsFailures}
 use Rattle.ptb_serve.specs.Replies.{share_prefix, front_note}
 use Rattle.ptb_serve.specs.ServedRequests.{ListsFewerOf, device_note, reports_note}
@@ -65,10 +65,10 @@ module _ (request : Request) (p : StoredProgram) (memory : p.memory ≡ request.
         (Appends-nil held) tt fault kind)
 
     module _ (input : List (List ℕ)) (lines : IfSome i (λ c. input ≡ input_lines c)) where
-      unbegun_listed : (held : Option (List ℕ)) (note : Note)
+      unstarted_listed : (held : Option (List ℕ)) (note : Note)
           → (note ≡ notes.OutOfMemory) ⊎ (front_note (play p input request.rules) under after ≡ Some note)
           → ServesProgram listing request p i j held held (Err note)
-      unbegun_listed held note one =
+      unstarted_listed held note one =
           listing_serves held held (Err note)
           (record {
             served = λ c is. serves_front p request.rules under after first form held c input
@@ -90,27 +90,28 @@ module _ (request : Request) (p : StoredProgram) (memory : p.memory ≡ request.
       pub failures : ReportsFailures broke breaks result
 
     -- no listing begins so
-    unbegun_noted : (held : Option (List ℕ)) (broke : ℕ) (note : Note)
+    unstarted_noted : (held : Option (List ℕ)) (broke : ℕ) (note : Note)
         → (note ≡ notes.OutOfMemory) ⊎ (front_note (play p input request.rules) under after ≡ Some note)
         → IsListedOn held held broke broke (Err note)
-    unbegun_noted held broke note unbegun = record {
-      serves = λ known left lines. unbegun_listed known left input lines held note unbegun;
+    unstarted_noted held broke note unstarted = record {
+      serves = λ known left lines. unstarted_listed known left input lines held note unstarted;
       read =
-          front_note-other (play p input request.rules) under after note notes.InputUnread unbegun (λ x. absurd cc)
+          front_note-other (play p input request.rules) under after note notes.InputUnread unstarted (λ x. absurd cc)
           (λ x. absurd cc) (λ x. absurd cc);
       failures = record {
-        unwritten = λ x. absurd (front_note-other (play p input request.rules) under after note notes.Unwritten unbegun
+        unwritten = λ x. absurd (front_note-other (play p input request.rules) under after note notes.Unwritten
+            unstarted
             (λ x. absurd cc) (λ x. absurd cc) (λ x. absurd cc) x);
         written = λ _. refl;
       };
     }
 
-    pub listing_unbegun : (held : Option (List ℕ)) (broke : ℕ) (why : OpenFault)
-        → IsUnbegun (play p input request.rules) under after why
-        → IsListedOn held held broke broke (unbegun_attempt why).served
-    listing_unbegun held broke (NoBeginning m) x = unbegun_noted held broke (mismatch_note (Under m)) (inr x.0)
-    listing_unbegun held broke (NotARun m) x = unbegun_noted held broke (mismatch_note (After m)) (inr x.0)
-    listing_unbegun held broke Memory x = unbegun_noted held broke notes.OutOfMemory (inl refl)
+    pub listing_unstarted : (held : Option (List ℕ)) (broke : ℕ) (why : OpenFault)
+        → IsUnstarted (play p input request.rules) under after why
+        → IsListedOn held held broke broke (unstarted_attempt why).served
+    listing_unstarted held broke (NoBeginning m) x = unstarted_noted held broke (mismatch_note (Under m)) (inr x.0)
+    listing_unstarted held broke (NotARun m) x = unstarted_noted held broke (mismatch_note (After m)) (inr x.0)
+    listing_unstarted held broke Memory x = unstarted_noted held broke notes.OutOfMemory (inl refl)
 
     -- an explorer continued from its front
     module _ (out : Output) (e : Exploration) (f : Front)

@@ -1,5 +1,5 @@
 -- This file proves what is said of a list that fits no run.
--- Main lemma: `unbegun_told`.
+-- Main lemma: `unstarted_told`.
 use Rattle.std.proofs.Common.{◌≡◌, ◌⊎◌, inl, inr, ℕ, List, Option, Some, None, Result, Ok, Err}
 use Rattle.std.proofs.Common.{IfOk, IfSome, IsErrOf, IsSome, refl, ap, sym, subst}
 use Rattle.ptb_text.specs.Lines.{input_lines}
@@ -23,8 +23,8 @@ use Rattle.ptb_command.specs.declared.ending.Ending.{Ending}
 use Rattle.ptb_machine.specs.declared.fault.RunFault.{RunFault}
 use Rattle.ptb_machine.specs.declared.fault.RunFault.TheVariants as faults
 use Rattle.ptb_serve.specs.LoadedPrograms.{IsRunStatus, RefusesListIn, ReportsMismatch}
-use Rattle.ptb_serve.specs.ListMismatches.{IsMismatchIn, IsMismatchOf, IsListRefused, IsUnbegun}
-use Rattle.ptb_serve.specs.ListMismatches.{mismatch_note, refused_attempt, unbegun_attempt}
+use Rattle.ptb_serve.specs.ListMismatches.{IsMismatchIn, IsMismatchOf, IsListRefused, IsUnstarted}
+use Rattle.ptb_serve.specs.ListMismatches.{mismatch_note, refused_attempt, unstarted_attempt}
 use Rattle.ptb_serve.specs.Replies.{program_of_text}
 use Rattle.ptb_serve.specs.ServedRequests.{device_note, outcome_of, reports_note}
 use Rattle.ptb_text.specs.declared.device_fault.DeviceFault.{DeviceFault}
@@ -94,24 +94,24 @@ refused_told request p known input lines under after first form m x = record {
 }
 
 -- and so it is where a listing is not begun
-pub unbegun_told : (request : Request) (p : StoredProgram) (known : Option (List ℕ)) (input : List (List ℕ))
+pub unstarted_told : (request : Request) (p : StoredProgram) (known : Option (List ℕ)) (input : List (List ℕ))
     → IfSome known (λ c. input ≡ input_lines c)
     → (under after : Option (List Marked)) (first : Option ℕ) (form : Form) (why : OpenFault)
-    → IsUnbegun (play p input request.rules) under after why
-    → ReportsMismatch (modes.All under after first form) request p known (unbegun_attempt why).served
-    (unbegun_attempt why).mismatch
-unbegun_told request p known input lines under after first form Memory x =
+    → IsUnstarted (play p input request.rules) under after why
+    → ReportsMismatch (modes.All under after first form) request p known (unstarted_attempt why).served
+    (unstarted_attempt why).mismatch
+unstarted_told request p known input lines under after first form Memory x =
     none_told (modes.All under after first form) request p known (Err notes.OutOfMemory) memory_refuses_none
-unbegun_told request p known input lines under after first form (NoBeginning m) x =
+unstarted_told request p known input lines under after first form (NoBeginning m) x =
     refused_told request p known input lines under after first form (Under m) x
-unbegun_told request p known input lines under after first form (NotARun m) x =
+unstarted_told request p known input lines under after first form (NotARun m) x =
     refused_told request p known input lines under after first form (After m) x
 
 -- and no line stopped it
-pub unbegun_line : (why : OpenFault) → (unbegun_attempt why).line ≡ None
-unbegun_line Memory = refl
-unbegun_line (NoBeginning m) = refl
-unbegun_line (NotARun m) = refl
+pub unstarted_line : (why : OpenFault) → (unstarted_attempt why).line ≡ None
+unstarted_line Memory = refl
+unstarted_line (NoBeginning m) = refl
+unstarted_line (NotARun m) = refl
 
 -- ---- for a program that was loaded
 

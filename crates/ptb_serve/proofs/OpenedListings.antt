@@ -1,6 +1,6 @@
 -- This file proves that an explorer is where a listing is to begin, or why it isn't, from what is known of the calls
 -- that open it.
--- Main lemmas: `at_first`, `at_named` and `unbegun_there`.
+-- Main lemmas: `at_first`, `at_named` and `unstarted_there`.
 use Rattle.std.proofs.Common.{◌≡◌, ◌∙◌, ap, ap₂, sym, subst, true, ℕ, List, []}
 use Rattle.std.proofs.Common.{Option, Some, None, Result, Ok, Err, IfErr, IfOk, IsErrOf, OnOk}
 use Rattle.std.specs.Result.{IsErrAnd}
@@ -19,24 +19,25 @@ use Rattle.ptb_explore.specs.declared.fault.OpenFault.{OpenFault}
 use Rattle.ptb_explore.specs.declared.fault.OpenFault.TheVariants.{NoBeginning, NotARun}
 use Rattle.ptb_explore.specs.declared.mismatch.Mismatch.{Mismatch}
 use Rattle.ptb_explore.proofs.PublicLemmas.{on_ok_both}
-use Rattle.ptb_serve.specs.ListMismatches.{IsUnbegun, items_of}
+use Rattle.ptb_serve.specs.ListMismatches.{IsUnstarted, items_of}
 use Rattle.ptb_serve.specs.Replies.{share_prefix, front_note}
-use Rattle.ptb_serve.proofs.Fronts.{begun_at, items_answers, unbegun_at}
+use Rattle.ptb_serve.proofs.Fronts.{begun_at, items_answers, unstarted_at}
 
 -- ---- no run begins so
 
 -- a fault that is passed on says that no run begins with the list, or that memory was refused
-pub unbegun_before : (game : Answers → Outcome Finish (List ℕ)) (under after : Option (List Marked)) (e : OpenFault)
+pub unstarted_before : (game : Answers → Outcome Finish (List ℕ)) (under after : Option (List Marked)) (e : OpenFault)
     (r : Result Exploration OpenFault) → IsErrAnd r (λ y. y ≡ e)
     → ((m : Mismatch) → ◌≡◌ {A = Result Exploration OpenFault} (Err e) (Err (NoBeginning m))
     → IsMarkedBeginning game (items_of under) → ⊥)
     → ((m : Mismatch) → ◌≡◌ {A = Result Exploration OpenFault} (Err e) (Err (NoBeginning m))
     → IsItemMismatch game (items_of under) m)
     → ((m : Mismatch) → ◌≡◌ {A = Result Exploration OpenFault} (Err e) (Err (NotARun m)) → ⊥)
-    → IfErr r (IsUnbegun game under after)
-unbegun_before game under after e (Ok x) is none why kind = tt
-unbegun_before game under after e (Err y) is none why kind = subst (IsUnbegun game under after) (sym is)
-    (unbegun_at game under after (Err e) none why (λ m fault. absurd (kind m fault)) (λ m fault. absurd (kind m fault)))
+    → IfErr r (IsUnstarted game under after)
+unstarted_before game under after e (Ok x) is none why kind = tt
+unstarted_before game under after e (Err y) is none why kind = subst (IsUnstarted game under after) (sym is)
+    (unstarted_at game under after (Err e) none why (λ m fault. absurd (kind m fault))
+    (λ m fault. absurd (kind m fault)))
 
 -- ---- before the first run, or at one
 
@@ -77,13 +78,13 @@ module _ (p : StoredProgram) (input : List (List ℕ)) (rules : Rules) (under : 
   })) run so
 
   -- or the other list is refused
-  pub unbegun_there : (list : List Marked) (r : Result Exploration OpenFault)
+  pub unstarted_there : (list : List Marked) (r : Result Exploration OpenFault)
       → ((m : Mismatch) → IsErrOf r (NotARun m) → IsMarkedRun (play_of e) list
       → begins_with (answers_of list) e.under ≡ true → ⊥)
       → ((u : List Marked) → answers_of u ≡ e.under → (m : Mismatch) → IsErrOf r (NotARun m)
       → IsRunMismatch (play_of e) u list m)
-      → ((m : Mismatch) → IsErrOf r (NoBeginning m) → ⊥) → IfErr r (IsUnbegun (play p input rules) under (Some list))
-  unbegun_there list r none why kind = unbegun_at (play p input rules) under (Some list) r
+      → ((m : Mismatch) → IsErrOf r (NoBeginning m) → ⊥) → IfErr r (IsUnstarted (play p input rules) under (Some list))
+  unstarted_there list r none why kind = unstarted_at (play p input rules) under (Some list) r
       (λ m fault _. kind m fault) (λ m fault. absurd (kind m fault))
       (λ m fault. (
         begins,

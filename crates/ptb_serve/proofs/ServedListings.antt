@@ -199,12 +199,12 @@ module _ (p : StoredProgram) (rules : Rules) (under after : Option (List Marked)
     serves_refused input note (inr e) =
         subst (λ m. Serves (refusal m) held held (outcome_of (Err m))) (sym e) (replies_refusal held notes.NoRun)
 
-    serves_unbegun : (input : List (List ℕ)) (note : Note)
+    serves_unstarted : (input : List (List ℕ)) (note : Note)
         → (note ≡ notes.OutOfMemory) ⊎ (front_note (game input) under after ≡ Some note)
         → Serves (reply input) held held (outcome_of (Err note))
-    serves_unbegun input note (inl e) =
+    serves_unstarted input note (inl e) =
         subst (λ m. Serves (reply input) held held (outcome_of (Err m))) (sym e) (takes_nothing held _)
-    serves_unbegun input note (inr e) =
+    serves_unstarted input note (inr e) =
         subst (λ r. Serves r held held (outcome_of (Err note))) (sym (reply-refused input note e))
         (serves_refused input note
         (note_is (begins_runs (game input) under) (is_front (game input) (share_prefix under) after) note e))
@@ -215,7 +215,7 @@ module _ (p : StoredProgram) (rules : Rules) (under after : Option (List Marked)
           → (note ≡ notes.OutOfMemory) ⊎ (front_note (game input) under after ≡ Some note)
           → Serves (runs_due rules under after first form c p) held held (outcome_of (Err note))
       serves_front input is note one =
-          subst (λ i. Serves (reply i) held held (outcome_of (Err note))) is (serves_unbegun input note one)
+          subst (λ i. Serves (reply i) held held (outcome_of (Err note))) is (serves_unstarted input note one)
 
   -- ---- how it is served, where reports were written
 

@@ -166,10 +166,10 @@ module _ (request : Request) (p : StoredProgram) (memory : p.memory ≡ request.
         (fewer_split p request n form input out.before out.after f fault (written_from (Err fault) w) refused) c is)))
 
   -- there was no memory to begin the search
-  pub shares_unbegun : (input : List (List ℕ)) (held : Option (List ℕ)) (broke : ℕ) (result : Result ℕ Note)
+  pub shares_unstarted : (input : List (List ℕ)) (held : Option (List ℕ)) (broke : ℕ) (result : Result ℕ Note)
       → IsErrAnd result (λ m. m ≡ notes.OutOfMemory)
       → IsServedOn shares request p input (record { before = held; after = held; failed = broke; fails = broke }) result
-  shares_unbegun input held broke result is =
+  shares_unstarted input held broke result is =
       subst (IsServedOn shares request p input (record { before = held; after = held; failed = broke; fails = broke }))
       (sym (gives_err result notes.OutOfMemory is))
       (record {

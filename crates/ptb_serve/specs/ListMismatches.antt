@@ -5,9 +5,9 @@
 --     IsMismatchIn game under after m      m says why one of these lists fits no run
 --     IsMismatchOf mode p input rules m    the same, of the lists of a request
 --     refused_attempt m                    the attempt of a listing whose list fits no run
---     unbegun_attempt why                  the attempt of a listing that is not begun
+--     unstarted_attempt why                the attempt of a listing that is not begun
 --     IsListRefused game under after m         a list is refused by its note, and for what it does not fit
---     IsUnbegun game under after why       a list is refused, or memory was
+--     IsUnstarted game under after why     a list is refused, or memory was
 use Rattle.std.specs.Prelude.{◌≡◌, ℕ, List, [], Option, Some, None, Err}
 use Rattle.ptb_text.specs.Statements.{StoredProgram}
 use Rattle.ptb_answers.specs.Outcome.{Answers, Outcome}
@@ -57,10 +57,10 @@ IsMismatchOf modes.Chances p input rules m = ⊥
 abbrev pub refused_attempt : ListMismatch → Attempt
 refused_attempt m = record { served = Err (mismatch_note m); mismatch = Some m; line = None }
 
-abbrev pub unbegun_attempt : OpenFault → Attempt
-unbegun_attempt (NoBeginning m) = refused_attempt (Under m)
-unbegun_attempt (NotARun m) = refused_attempt (After m)
-unbegun_attempt Memory = record { served = Err notes.OutOfMemory; mismatch = None; line = None }
+abbrev pub unstarted_attempt : OpenFault → Attempt
+unstarted_attempt (NoBeginning m) = refused_attempt (Under m)
+unstarted_attempt (NotARun m) = refused_attempt (After m)
+unstarted_attempt Memory = record { served = Err notes.OutOfMemory; mismatch = None; line = None }
 
 abbrev pub IsListRefused : (Answers → Outcome Finish (List ℕ)) → Option (List Marked) → Option (List Marked)
     → ListMismatch
@@ -68,8 +68,8 @@ abbrev pub IsListRefused : (Answers → Outcome Finish (List ℕ)) → Option (L
 IsListRefused game under after m = (front_note game under after ≡ Some (mismatch_note m))
     × IsMismatchIn game under after m
 
-abbrev pub IsUnbegun : (Answers → Outcome Finish (List ℕ)) → Option (List Marked) → Option (List Marked) → OpenFault
+abbrev pub IsUnstarted : (Answers → Outcome Finish (List ℕ)) → Option (List Marked) → Option (List Marked) → OpenFault
     → Type 0
-IsUnbegun game under after (NoBeginning m) = IsListRefused game under after (Under m)
-IsUnbegun game under after (NotARun m) = IsListRefused game under after (After m)
-IsUnbegun game under after Memory = Unit {0}
+IsUnstarted game under after (NoBeginning m) = IsListRefused game under after (Under m)
+IsUnstarted game under after (NotARun m) = IsListRefused game under after (After m)
+IsUnstarted game under after Memory = Unit {0}

@@ -11,7 +11,7 @@ pub use Rattle.ptb_machine.specs.Runs.{ending_alone}
 pub use Rattle.ptb_machine.specs.Streams.{reads_of, writes_of}
 pub use Rattle.ptb_text.specs.Device.{HasFailed}
 pub use Rattle.ptb_text.specs.Lines.{input_lines}
-pub use Rattle.ptb_serve.specs.ListMismatches.{IsUnbegun, items_of}
+pub use Rattle.ptb_serve.specs.ListMismatches.{IsUnstarted, items_of}
 pub use Rattle.ptb_serve.specs.LoadedPrograms.{ReadsInput, ServesProgram, ReportsFailures, ReportsMismatch, IsRunStatus}
 pub use Rattle.ptb_serve.specs.LoadedPrograms.{end_line, IsServed, IsServedIn, IsServedOn}
 pub use Rattle.ptb_serve.specs.Promises.{FailsLoudly, ReadsOnlyWhatIsAsked, Served}

@@ -2,7 +2,7 @@
 
 ghost use Rattle.std.specs.Prelude.{◌≡◌, ℕ, List, Option, None, IfErr, IfOk, IfSome, IsErrOf, OnOk, option_copied};
 ghost use Rattle.ptb_serve.specs.Prelude.{FailsAfterSome, FailsOnlyAfterSome, input_lines, play, exploration, play_of};
-ghost use Rattle.ptb_serve.specs.Prelude.{most_of, WritesRuns, report, Front, runs_left, mode_of, IsUnbegun};
+ghost use Rattle.ptb_serve.specs.Prelude.{most_of, WritesRuns, report, Front, runs_left, mode_of, IsUnstarted};
 ghost use Rattle.ptb_serve.specs.Prelude.{ServesProgram, ReportsFailures, ReportsMismatch, share_prefix, first_front};
 ghost use Rattle.ptb_serve.specs.Prelude.{front_note, items_of, ReadsInput};
 
@@ -116,7 +116,7 @@ fn list_runs_on<W: Write>(
             Ok(_) => Attempt::without_mismatch(Ok(0)),
             Err(broken) => Attempt::without_mismatch(Err(Note::from(broken))),
         },
-        Err(why) => Attempt::unbegun(why),
+        Err(why) => Attempt::unstarted(why),
     }
 }
 
@@ -172,7 +172,7 @@ fn explorer_from<'a>(
         (share_prefix listing.entry.under.now) (first_front listing.entry.after.now) e.kept e.played) }
     ensures begun { OnOk result (front_note (play program.now lines.now request.now.rules)
         listing.entry.under.now listing.entry.after.now ≡ None) }
-    ensures unbegun { IfErr result (IsUnbegun (play program.now lines.now request.now.rules)
+    ensures unstarted { IfErr result (IsUnstarted (play program.now lines.now request.now.rules)
         listing.entry.under.now listing.entry.after.now) }
 {
     let under = items(listing.under);

@@ -1,7 +1,7 @@
 // This file has the result of serving a request for a program that was loaded.
 
 ghost use Rattle.std.specs.Prelude.{◌≡◌, None};
-ghost use Rattle.ptb_serve.specs.ListMismatches.{refused_attempt, unbegun_attempt};
+ghost use Rattle.ptb_serve.specs.ListMismatches.{refused_attempt, unstarted_attempt};
 
 use crate::list_mismatch::ListMismatch;
 use crate::note::Note;
@@ -41,8 +41,8 @@ impl Attempt {
 
     // The attempt of a listing that is not started. A list that fits no run is refused, and never
     // for lack of memory.
-    pub(crate) fn unbegun(why: OpenFault) -> Attempt
-        ensures { result ≡ unbegun_attempt why }
+    pub(crate) fn unstarted(why: OpenFault) -> Attempt
+        ensures { result ≡ unstarted_attempt why }
     {
         match why {
             OpenFault::NoBeginning(mismatch) => Attempt::refused(ListMismatch::Under(mismatch)),

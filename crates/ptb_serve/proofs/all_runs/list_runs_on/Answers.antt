@@ -4,9 +4,9 @@ use Rattle.std.proofs.Common.{Err, refl, subst}
 use Rattle.ptb_machine.specs.Streams.{writes_of}
 use Rattle.ptb_serve.specs.declared.note.Note.{Note}
 use Rattle.ptb_serve.specs.LoadedPrograms.{RefusesListIn}
-use Rattle.ptb_serve.proofs.ListingResults.{listing_broken, listing_unbegun, listing_written}
+use Rattle.ptb_serve.proofs.ListingResults.{listing_broken, listing_unstarted, listing_written}
 use Rattle.ptb_serve.proofs.Mismatches.{none_told, reports_refuse_none, success_refuses_none}
-use Rattle.ptb_serve.proofs.Mismatches.{unbegun_line, unbegun_told}
+use Rattle.ptb_serve.proofs.Mismatches.{unstarted_line, unstarted_told}
 use Rattle.ptb_serve.proofs.WholeInput.{no_fault}
 use Rattle.ptb_serve.proofs.all_runs.list_runs_on.Goals as goal
 
@@ -58,15 +58,15 @@ pub returns-in-Err : goal.returns-in-Err
 returns-in-Err g c =
     let l = c.args.listing in
     let listed =
-    listing_unbegun c.args.request.now c.args.program.now c.requires.memory l.under.now l.after.now
+    listing_unstarted c.args.request.now c.args.program.now c.requires.memory l.under.now l.after.now
     l.first l.form c.args.lines.now
-    (g.W.Write.contents c.args.out.now) (g.W.Write.failures c.args.out.now) c.in-Err.why c.in-Err.ensures.unbegun
+    (g.W.Write.contents c.args.out.now) (g.W.Write.failures c.args.out.now) c.in-Err.why c.in-Err.ensures.unstarted
     in
-    rw c.unbegun.ensures (record {
+    rw c.unstarted.ensures (record {
       serves = listed.serves;
       read = listed.read;
       failures = listed.failures;
-      mismatch = λ known lines. unbegun_told c.args.request.now c.args.program.now known c.args.lines.now lines
-          l.under.now l.after.now l.first l.form c.in-Err.why c.in-Err.ensures.unbegun;
-      no_line = unbegun_line c.in-Err.why;
+      mismatch = λ known lines. unstarted_told c.args.request.now c.args.program.now known c.args.lines.now lines
+          l.under.now l.after.now l.first l.form c.in-Err.why c.in-Err.ensures.unstarted;
+      no_line = unstarted_line c.in-Err.why;
     })

@@ -1,13 +1,13 @@
 -- This file answers that the lists that split the runs on the lines of an input are written as is due.
 use Rattle.ptb_machine.specs.Streams.{writes_of}
-use Rattle.ptb_serve.proofs.Splits.{shares_broken, shares_unbegun, shares_written}
+use Rattle.ptb_serve.proofs.Splits.{shares_broken, shares_unstarted, shares_written}
 use Rattle.ptb_serve.proofs.WholeInput.{no_fault}
 use Rattle.ptb_serve.proofs.shares.share_lines.Goals as goal
 
 -- the search can't begin
 pub returns-in_err-beginnings : goal.returns-in_err-beginnings
 returns-in_err-beginnings g c =
-    shares_unbegun c.args.request.now c.args.program.now c.requires.memory c.args.shares.answers
+    shares_unstarted c.args.request.now c.args.program.now c.requires.memory c.args.shares.answers
     c.args.shares.form c.args.lines.now
     (g.W.Write.contents c.args.out.now) (g.W.Write.failures c.args.out.now) c.from_residual.result
     c.from_residual.ensures.1

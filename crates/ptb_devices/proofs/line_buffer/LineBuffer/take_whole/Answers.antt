@@ -35,8 +35,8 @@ returns c =
               ∙ slice_range-front s.bytes s.from s.to (count + 1) (omega (arith, size, c.self.invariant.ordered))
               ∙ ap (λ n. take (count + 1) waiting ++ slice_range s.bytes n s.to) past;
           some = omega (arith, length-take (count + 1) waiting, long, size);
-          unbegun = sym (ap (λ i. i.piece) c.self.view_is)
-              ∙ none_if c.self.inside.cutter (λ h. true_or_false c.if-has_begun.false (c.has_begun.ensures.1 h));
+          unstarted = sym (ap (λ i. i.piece) c.self.view_is)
+              ∙ none_if c.self.inside.cutter (λ h. true_or_false c.if-has_started.false (c.has_started.ensures.1 h));
           cut = subst (λ l. IsLine l (take (count + 1) waiting)) (sym line)
               (subst (λ l. IsLine (take count l) (take (count + 1) l)) bytes c.in_ok-count.ensures.line);
           rest = ap (λ (i : InputState). record i { waiting = slice_range s.bytes (s.from + count + 1) s.to })
