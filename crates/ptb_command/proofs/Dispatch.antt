@@ -68,12 +68,12 @@ acts_alone refused others more p m n o choices screen most choose before q t i w
 
 pub begun_next : (p : Statements) (o : Option Place) (here : Location) (t : List ℕ) (word : Word) (i : ℕ)
     (n : NextIs p o here t)
-    → IsFirstWord t here.at word i → Begun p n.place here.statement t word i
+    → IsFirstWord t here.offset word i → Begun p n.place here.statement t word i
 begun_next p o here t word i n f = record {
   statement = n.is.statement;
   text = n.text;
-  start = here.at;
-  at = subst (λ (x : List ℕ). IsSamePlace x n.place.index here.at) n.text n.is.at;
+  start = here.offset;
+  at = subst (λ (x : List ℕ). IsSamePlace x n.place.index here.offset) n.text n.is.at;
   more = n.more;
   command = f.command;
   from = f.from;

@@ -35,40 +35,40 @@ placed p s P f (Some q) a = f q a
 
 module _ (laws : CommandLaws) (p : Statements) (q : Place) (s : Location) (a : PlaceIs p q s) (t : List ℕ)
     (tn : t ≡ text_of p q.number) where
-  pub next_here : is_over t s.at ≡ false → NextIs p (Some q) s t
+  pub next_here : is_over t s.offset ≡ false → NextIs p (Some q) s t
   next_here e = record {
     place = q;
     next = next_by p q ∙ ap (command_or_next p q)
         (ap (λ (x : List ℕ). slice_get (commands x) q.index) (sym tn)
-        ∙ laws.at_there t q.index s.at (subst (λ (x : List ℕ). IsSamePlace x q.index s.at) (sym tn) a.at) e);
+        ∙ laws.at_there t q.index s.offset (subst (λ (x : List ℕ). IsSamePlace x q.index s.offset) (sym tn) a.at) e);
     is = a;
     text = sym tn;
     more = e;
   }
 
   -- nothing is left of its statement
-  following : is_over t s.at ≡ true → next_command p (Some q) ≡ first_command p (place_after p q.number)
+  following : is_over t s.offset ≡ true → next_command p (Some q) ≡ first_command p (place_after p q.number)
   following e = next_by p q ∙ ap (command_or_next p q)
       (ap (λ (x : List ℕ). slice_get (commands x) q.index) (sym tn)
-      ∙ laws.at_none t q.index s.at (subst (λ (x : List ℕ). IsSamePlace x q.index s.at) (sym tn) a.at) e)
+      ∙ laws.at_none t q.index s.offset (subst (λ (x : List ℕ). IsSamePlace x q.index s.offset) (sym tn) a.at) e)
 
-  pub next_last : is_over t s.at ≡ true → place_after p q.number ≡ None → next_command p (Some q) ≡ None
+  pub next_last : is_over t s.offset ≡ true → place_after p q.number ≡ None → next_command p (Some q) ≡ None
   next_last e k = following e ∙ ap (first_command p) k
 
   -- nothing is in the statement after it
-  pub next_empty : (b : Location) (z : ℤ) (u : List ℕ) → is_over t s.at ≡ true
-      → PlacesAre p (place_after p q.number) (Some b) → IsLineAt p b.statement z u → is_over u b.at ≡ true
+  pub next_empty : (b : Location) (z : ℤ) (u : List ℕ) → is_over t s.offset ≡ true
+      → PlacesAre p (place_after p q.number) (Some b) → IsLineAt p b.statement z u → is_over u b.offset ≡ true
       → next_command p (Some q) ≡ None
   next_empty b z u e a x o =
       let r = is_placed p (place_after p q.number) b a in
       let text = text_there p r.place b z u r.is x in
       following e ∙ ap (first_command p) r.there ∙ ap (placed_at r.place)
-      (ap (λ (y : List ℕ). slice_get (commands y) r.place.index) (sym text) ∙ laws.at_none u r.place.index b.at
-      (subst (λ (y : List ℕ). IsSamePlace y r.place.index b.at) (sym text) r.is.at) o)
+      (ap (λ (y : List ℕ). slice_get (commands y) r.place.index) (sym text) ∙ laws.at_none u r.place.index b.offset
+      (subst (λ (y : List ℕ). IsSamePlace y r.place.index b.offset) (sym text) r.is.at) o)
 
   -- its first command is next
-  pub next_later : (b : Location) (z : ℤ) (u : List ℕ) → is_over t s.at ≡ true
-      → PlacesAre p (place_after p q.number) (Some b) → IsLineAt p b.statement z u → is_over u b.at ≡ false
+  pub next_later : (b : Location) (z : ℤ) (u : List ℕ) → is_over t s.offset ≡ true
+      → PlacesAre p (place_after p q.number) (Some b) → IsLineAt p b.statement z u → is_over u b.offset ≡ false
       → NextIs p (Some q) b u
   next_later b z u e a x o =
       let r = is_placed p (place_after p q.number) b a in
@@ -76,8 +76,9 @@ module _ (laws : CommandLaws) (p : Statements) (q : Place) (s : Location) (a : P
       record {
         place = r.place;
         next = following e ∙ ap (first_command p) r.there ∙ ap (placed_at r.place)
-            (ap (λ (y : List ℕ). slice_get (commands y) r.place.index) (sym text) ∙ laws.at_there u r.place.index b.at
-            (subst (λ (y : List ℕ). IsSamePlace y r.place.index b.at) (sym text) r.is.at) o);
+            (ap (λ (y : List ℕ). slice_get (commands y) r.place.index) (sym text)
+            ∙ laws.at_there u r.place.index b.offset
+            (subst (λ (y : List ℕ). IsSamePlace y r.place.index b.offset) (sym text) r.is.at) o);
         is = r.is;
         text = sym text;
         more = o;

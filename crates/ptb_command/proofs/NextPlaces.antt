@@ -35,7 +35,7 @@ module _ (laws : CommandLaws) (p : Statements) (q : Place) (k : ℕ) (t : List �
 
   -- another command follows it
   pub next_there : (e j : ℕ) → IsWhole (parts_of word t i) e → next_start word t e ≡ Some j
-      → PlaceIs p (next_index q) (record { statement = k; at = j })
+      → PlaceIs p (next_index q) (record { statement = k; offset = j })
   next_there e j whole n = record {
     statement = begun.statement;
     at = subst (λ (x : List ℕ). IsSamePlace x (q.index + 1) j) (sym begun.text)
@@ -45,7 +45,7 @@ module _ (laws : CommandLaws) (p : Statements) (q : Place) (k : ℕ) (t : List �
 
   -- it is the last one
   pub none_there : (e : ℕ) → IsWhole (parts_of word t i) e → next_start word t e ≡ None → is_over t e ≡ true
-      → PlaceIs p (next_index q) (record { statement = k; at = e })
+      → PlaceIs p (next_index q) (record { statement = k; offset = e })
   none_there e whole n over = record {
     statement = begun.statement;
     at = subst (λ (x : List ℕ). IsSamePlace x (q.index + 1) e) (sym begun.text)
@@ -59,9 +59,9 @@ module _ (laws : CommandLaws) (p : Statements) (q : Place) (k : ℕ) (t : List �
 
   -- the place after a command that checks for its end
   pub follows_there : (e j : ℕ) → ChecksEnd word → IsClosed t i (parts_of word t i) e → NextBegins t e j
-      → PlaceIs p (next_index q) (record { statement = k; at = j })
+      → PlaceIs p (next_index q) (record { statement = k; offset = j })
   follows_there e j checks closed (inl f) = next_there e j closed.whole (checks.next t e ∙ f)
   follows_there e j checks closed (inr f) =
-      subst (λ (x : ℕ). PlaceIs p (next_index q) (record { statement = k; at = x })) (sym f.1)
+      subst (λ (x : ℕ). PlaceIs p (next_index q) (record { statement = k; offset = x })) (sym f.1)
       (none_there e closed.whole (checks.next t e ∙ f.0)
       (over_there (is_over t e) (is_some (token_at 59 t e)) closed.ends (ap is_some f.0)))

@@ -6,8 +6,8 @@ use Rattle.ptb_command.specs.declared.location.Location.{Location}
 use Rattle.ptb_command.specs.declared.stack.Open.{Open}
 use Rattle.ptb_command.specs.declared.stack.OpenLoop.{OpenLoop}
 
-pub same_location : (x y : Location) → x.statement ≡ y.statement → x.at ≡ y.at → x ≡ y
-same_location x y statement at = λ i. record { statement = statement i; at = at i }
+pub same_location : (x y : Location) → x.statement ≡ y.statement → x.offset ≡ y.offset → x ≡ y
+same_location x y statement at = λ i. record { statement = statement i; offset = at i }
 
 pub same_loop : (x y : OpenLoop) → x.back ≡ y.back → x.letter ≡ y.letter → x.limit ≡ y.limit → x.step ≡ y.step → x ≡ y
 same_loop x y back letter limit step = λ i. record { back = back i; letter = letter i; limit = limit i; step = step i }

@@ -18,7 +18,7 @@ use Rattle.ptb_command.specs.Places.{IsSamePlace}
 -- the command begins
 pub record PlaceIs (p : Statements) (q : Place) (m : Location) : Type 0 where
   pub statement : slice_get p m.statement ≡ Some (q.number, text_of p q.number)
-  pub at : IsSamePlace (text_of p q.number) q.index m.at
+  pub at : IsSamePlace (text_of p q.number) q.index m.offset
 
 -- n and t are the number and the text of the statement at place i, if there is one
 abbrev pub IsLineAt : Statements → ℕ → ℤ → List ℕ → Type 0
@@ -40,7 +40,7 @@ pub record IsPlaceOf (p : Statements) (m : Option Location) : Type 0 where
 -- here and t are the byte place of the command and the text of its statement
 pub record NextIs (p : Statements) (q : Option Place) (here : Location) (t : List ℕ) : Type 0 where
   pub place : Place
-  pub next : next_command p q ≡ Some (place, command_at t here.at)
+  pub next : next_command p q ≡ Some (place, command_at t here.offset)
   pub is : PlaceIs p place here
   pub text : text_of p place.number ≡ t
-  pub more : is_over t here.at ≡ false
+  pub more : is_over t here.offset ≡ false

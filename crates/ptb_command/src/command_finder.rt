@@ -20,18 +20,18 @@ pub fn next_command<'a>(
     ensures { (q : Option Place) → PlacesAre program.now.lines q place →
         MatchOption result (next_command program.now.lines q ≡ None)
         (λ x. NextIs program.now.lines q
-        (record { statement = x.0; at = x.1.place }) x.1.text) }
+        (record { statement = x.0; offset = x.1.place }) x.1.text) }
 {
     command_laws();
     let here = place?;
     let (_, text) = line_at(program, here.statement);
-    let cursor = Cursor::new(text, here.at);
+    let cursor = Cursor::new(text, here.offset);
     if !cursor.at_end() {
         return Some((here.statement, cursor));
     }
     let following = place_after(program, here.statement)?;
     let (_, text) = line_at(program, following.statement);
-    let cursor = Cursor::new(text, following.at);
+    let cursor = Cursor::new(text, following.offset);
     if cursor.at_end() {
         return None;
     }

@@ -8,7 +8,7 @@ pub struct Location {
     /// How many statements are before it.
     pub statement: usize,
     /// How many bytes of the text are before the place.
-    pub at: usize,
+    pub offset: usize,
 }
 
 impl Location {
@@ -17,13 +17,13 @@ impl Location {
     pub(crate) fn is_same(self, other: Location) -> bool
         ensures { IsTrue result ↔ (self ≡ other) }
     {
-        self.statement == other.statement && self.at == other.at
+        self.statement == other.statement && self.offset == other.offset
     }
 
     /// A number that is the same for the same place. Others may have it, too.
     pub(crate) fn hash(self) -> u64 {
         (self.statement as u64)
             .wrapping_mul(0x1_0000)
-            .wrapping_add(self.at as u64)
+            .wrapping_add(self.offset as u64)
     }
 }

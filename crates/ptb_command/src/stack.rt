@@ -42,7 +42,7 @@ impl Default for Open {
     fn default() -> Self {
         Open::Call(Location {
             statement: 0,
-            at: 0,
+            offset: 0,
         })
     }
 }

@@ -32,7 +32,7 @@ pub(crate) fn first_place(program: &Program) -> Option<Location>
     } else {
         Some(Location {
             statement: 0,
-            at: 0,
+            offset: 0,
         })
     }
 }
@@ -53,7 +53,7 @@ pub(crate) fn place_after(program: &Program, statement: usize) -> Option<Locatio
     }
     Some(Location {
         statement: statement + 1,
-        at: 0,
+        offset: 0,
     })
 }
 
@@ -64,7 +64,10 @@ pub fn start_of(program: &Program, number: i16) -> Option<Location>
     command_laws();
     statement_laws();
     match program.statement_index(number) {
-        Some(statement) => Some(Location { statement, at: 0 }),
+        Some(statement) => {
+            let offset = 0;
+            Some(Location { statement, offset })
+        }
         None => None,
     }
 }

@@ -163,25 +163,25 @@ number_there k n t u e = ap (λ (o : Option (ℕ × List ℕ)). elim o [ Some x 
 
 -- a place in the first programs that is one in the second, found at the statement i with the number k
 same_number : (i k : ℕ) (q : Place) (m : Location) → k ≡ q.number → m.statement ≡ i
-    → slice_get printing i ≡ numbered k (text_of printing k) → IsSamePlace (text_of printing k) q.index m.at
+    → slice_get printing i ≡ numbered k (text_of printing k) → IsSamePlace (text_of printing k) q.index m.offset
     → PlaceIs printing q m
 same_number i k q m n e found at = record {
   statement = ap (slice_get printing) e
       ∙ subst (λ (k : ℕ). slice_get printing i ≡ numbered k (text_of printing k)) n found;
-  at = subst (λ (k : ℕ). IsSamePlace (text_of printing k) q.index m.at) n at;
+  at = subst (λ (k : ℕ). IsSamePlace (text_of printing k) q.index m.offset) n at;
 }
 
 there : (q : Place) (m : Location) → PlaceIs counting q m → PlaceIs printing q m
 there q m is = by_statement m.statement refl
   where
-    before : (k : ℕ) → k ≡ q.number → IsSamePlace (text_of counting k) q.index m.at
-    before k n = subst (λ (k : ℕ). IsSamePlace (text_of counting k) q.index m.at) (sym n) is.at
+    before : (k : ℕ) → k ≡ q.number → IsSamePlace (text_of counting k) q.index m.offset
+    before k n = subst (λ (k : ℕ). IsSamePlace (text_of counting k) q.index m.offset) (sym n) is.at
 
     by_statement : (i : ℕ) → m.statement ≡ i → PlaceIs printing q m
     by_statement zero e =
         let n : 10 ≡ q.number = number_there 10 q.number adds (text_of counting q.number)
         (sym (ap (slice_get counting) e) ∙ is.statement) in
-        same_number 0 10 q m n e refl (print_there q.index m.at (before 10 n))
+        same_number 0 10 q m n e refl (print_there q.index m.offset (before 10 n))
     by_statement (suc zero) e =
         let n : 20 ≡ q.number = number_there 20 q.number jumps (text_of counting q.number)
         (sym (ap (slice_get counting) e) ∙ is.statement) in

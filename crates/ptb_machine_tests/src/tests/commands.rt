@@ -43,7 +43,7 @@ fn program_or_refusal(
 fn open(stack: &mut Stack, byte: u8) -> bool {
     let back = Location {
         statement: 1,
-        at: 2,
+        offset: 2,
     };
     match Letter::new(byte) {
         Some(letter) => stack.open_loop(OpenLoop {
@@ -349,7 +349,7 @@ const CHANGES: &[(&str, Change, Likeness)] = &[
 // Changes registers.
 fn change(registers: &mut Registers, (place, a, opens): Change) {
     registers.place = match place {
-        Some((statement, at)) => Some(Location { statement, at }),
+        Some((statement, at)) => Some(Location { statement, offset: at }),
         None => None,
     };
     registers.store.set(letter(b'A'), a);

@@ -67,10 +67,10 @@ fn expect_next(
     code: &ProgramCode,
     (statement, at, guess, wanted): Place,
 ) {
-    let found = match code.next(program, Location { statement, at }, guess) {
+    let found = match code.next(program, Location { statement, offset: at }, guess) {
         Some(next) => {
             let name = name(next.operations.first());
-            Some((next.index, next.place.statement, next.place.at, name))
+            Some((next.index, next.place.statement, next.place.offset, name))
         }
         None => None,
     };
@@ -170,7 +170,7 @@ fn text_with_much_code(alloc: Global) -> Result<Vec<u8>, AllocError> {
 
 // Whether the command at the beginning of a statement has code.
 fn has_code(code: &ProgramCode, program: &Program, statement: usize) -> bool {
-    let place = Location { statement, at: 0 };
+    let place = Location { statement, offset: 0 };
     code.next(program, place, 0).is_some()
 }
 

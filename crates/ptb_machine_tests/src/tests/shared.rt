@@ -163,7 +163,7 @@ pub(crate) fn lines_of(alloc: Global, input: &[&[u8]]) -> Result<Vec<Line>, Allo
 // The two numbers of a place.
 pub(crate) fn numbers(place: Option<Location>) -> Option<(usize, usize)> {
     match place {
-        Some(place) => Some((place.statement, place.at)),
+        Some(place) => Some((place.statement, place.offset)),
         None => None,
     }
 }
@@ -241,7 +241,7 @@ pub(crate) const NO_ANSWER: Doing = Err(CommandStop::Pause(Pause::Ended));
 // What was done with registers. The text of a program is never over after its first command.
 pub(crate) fn doing(done: Result<(), CommandStop>, registers: &Registers) -> Doing {
     match (done, registers.place) {
-        (Ok(()), Some(place)) => Ok((place.statement, place.at)),
+        (Ok(()), Some(place)) => Ok((place.statement, place.offset)),
         (Ok(()), None) => Ok((usize::MAX, usize::MAX)),
         (Err(stop), _) => Err(stop),
     }

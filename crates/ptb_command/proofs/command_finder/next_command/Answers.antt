@@ -16,7 +16,7 @@ returns-in_err-here c q a =
 pub returns-then-not-at_end : goal.returns-then-not-at_end
 returns-then-not-at_end c q a =
     let p = c.args.program.now.lines in
-    let over : is_over c.line_at.result.1.now c.in_ok-here.here.at ≡ false =
+    let over : is_over c.line_at.result.1.now c.in_ok-here.here.offset ≡ false =
     rw c.new-cursor.ensures at (sym c.at_end.ensures ∙ c.if-not-at_end.true) in
     rw c.new-cursor.ensures
     (placed p c.in_ok-here.here (λ (q : Option Place). NextIs p q c.in_ok-here.here c.line_at.result.1.now)
@@ -28,7 +28,7 @@ pub returns-in_err-following : goal.returns-in_err-following
 returns-in_err-following c q a =
     let p = c.args.program.now.lines in
     let none : c.from_residual-in_err-following.result ≡ None = search rules in
-    let over : is_over c.line_at.result.1.now c.in_ok-here.here.at ≡ true =
+    let over : is_over c.line_at.result.1.now c.in_ok-here.here.offset ≡ true =
     rw c.new-cursor.ensures at (sym c.at_end.ensures ∙ c.if-not-at_end.false) in
     rw none (placed p c.in_ok-here.here (λ (q : Option Place). next_command p q ≡ None)
     (λ q a. next_last c.command_laws.ensures p q c.in_ok-here.here a _ (text_there p q _ _ _ a c.line_at.ensures.there)
@@ -39,9 +39,9 @@ returns-in_err-following c q a =
 pub returns-then-at_end : goal.returns-then-at_end
 returns-then-at_end c q a =
     let p = c.args.program.now.lines in
-    let over : is_over c.line_at.result.1.now c.in_ok-here.here.at ≡ true =
+    let over : is_over c.line_at.result.1.now c.in_ok-here.here.offset ≡ true =
     rw c.new-cursor.ensures at (sym c.at_end.ensures ∙ c.if-not-at_end.false) in
-    let over_after : is_over c.line_at-2.result.1.now c.in_ok-following.following.at ≡ true =
+    let over_after : is_over c.line_at-2.result.1.now c.in_ok-following.following.offset ≡ true =
     rw c.new-cursor-2.ensures at (sym c.at_end-2.ensures ∙ c.if-at_end.true) in
     placed p c.in_ok-here.here (λ (q : Option Place). next_command p q ≡ None)
     (λ q a. next_empty c.command_laws.ensures p q c.in_ok-here.here a _ (text_there p q _ _ _ a c.line_at.ensures.there)
@@ -52,9 +52,9 @@ returns-then-at_end c q a =
 pub returns : goal.returns
 returns c q a =
     let p = c.args.program.now.lines in
-    let over : is_over c.line_at.result.1.now c.in_ok-here.here.at ≡ true =
+    let over : is_over c.line_at.result.1.now c.in_ok-here.here.offset ≡ true =
     rw c.new-cursor.ensures at (sym c.at_end.ensures ∙ c.if-not-at_end.false) in
-    let over_after : is_over c.line_at-2.result.1.now c.in_ok-following.following.at ≡ false =
+    let over_after : is_over c.line_at-2.result.1.now c.in_ok-following.following.offset ≡ false =
     rw c.new-cursor-2.ensures at (sym c.at_end-2.ensures ∙ c.if-at_end.false) in
     rw c.new-cursor-2.ensures
     (placed p c.in_ok-here.here (λ (q : Option Place). NextIs p q c.in_ok-following.following c.line_at-2.result.1.now)
