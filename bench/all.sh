@@ -35,7 +35,7 @@ body_of() {
     listings) rows tree.sh && rows sample.sh && rows shares.sh ;;
     chances) rows chances.sh ;;
     input) rows input.sh ;;
-    loading) rows loading.sh ;;
+    loading) rows loads.sh ;;
     growth) rows growth.sh ;;
     esac
 }

@@ -31,11 +31,11 @@ counted() {
 
 tried binary.sh
 tried listings.py
-tried building.sh
+tried builds.sh
 tried dev.sh
-tried installing.sh
-tried releasing.sh
-tried resuming.sh
+tried installation.sh
+tried releases.sh
+tried resumption.sh
 tried shares.sh
 tried tools.py
 tried chances.py

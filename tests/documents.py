@@ -49,7 +49,8 @@ BYTES_OF_A_PICTURE = 100_000
 LOOKS_LIKE_COMMAND = re.compile(r"    (\./|rt |tests/|tools/|ptb-|cd |cat |diff |printf |echo |sed |tr |seq |xargs |parallel |q=)")
 # Programs that a reader may do without.
 OPTIONAL = ["parallel"]
-# What is tried elsewhere: the first in a copy of the repository, by tests/installing.sh; the second has this script as a part.
+# What is tried elsewhere: the first in a copy of the repository, by tests/installation.sh; the second has
+# this script as a part.
 TRIED_ELSEWHERE = {"./install ~/.local", "RT_JOBS=4 rt ci && tests/all.sh"}
 WORDS_OF_ANTT = {"abbrev", "record", "unfoldable"}
 NAMED_FILE = re.compile(r"`((?:bench|docs|examples|tests|tools)/[a-z0-9_.-]*[a-z0-9])[ `]")

@@ -8,7 +8,7 @@ import os
 import tempfile
 from dataclasses import dataclass, replace
 
-import of_tests
+import crate_tests
 import runner
 from replies import Reply, replied
 from rows import ROWS, Row, noted
@@ -182,8 +182,8 @@ class Refusals(runner.Gathered):
 
     def test_allocations_of_tests(self):
         """Each test passes, whichever of its allocations is refused."""
-        for crate, test, wanted in of_tests.TESTS:
-            refused, passed, faults = of_tests.swept(STRIKE, crate, test, wanted)
+        for crate, test, wanted in crate_tests.TESTS:
+            refused, passed, faults = crate_tests.swept(STRIKE, crate, test, wanted)
             self.count_sweep(f"{crate} {test}", passed, faults)
             print(f"allocations refused: {refused} in the test {test} of {crate}")
 

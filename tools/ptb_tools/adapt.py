@@ -6,14 +6,14 @@ import re
 import sys
 from typing import Dict, List, NamedTuple, Sequence, Tuple
 
-from .adapting.dialects import DIALECTS, SEPARATORS, Dialect, Random, found, without_texts
-from .adapting.layout import LONGEST_TEXT, Command, Layout, Plain
-from .adapting.lines import Line, NoListing, read
-from .adapting.notes import ByHand, Kind, Note, changes, remarks
-from .adapting.statements import parsed
-from .adapting.storage import Storage
-from .adapting.translating import Translator
-from .adapting.trees import Statement
+from .adaptation.dialects import DIALECTS, SEPARATORS, Dialect, Random, found, without_texts
+from .adaptation.layout import LONGEST_TEXT, Command, Layout, Plain
+from .adaptation.lines import Line, NoListing, read
+from .adaptation.notes import ByHand, Kind, Note, changes, remarks
+from .adaptation.statements import parsed
+from .adaptation.storage import Storage
+from .adaptation.translation import Translator
+from .adaptation.trees import Statement
 from .command import UNREAD, UNWRITTEN, Parser, Refusal, run, say
 
 LINES_LEFT, NO_LISTING = 1, 2

@@ -3,4 +3,4 @@
 # Arguments name parts of tests, as Spoiled; without any, all are run. PTB names another program than the one that ./ptb builds.
 . "$(dirname "$(readlink -f "$0")")/shared/head.sh"
 . "$root/tests/shared/built.sh"
-PYTHONPATH=$root/tests/shared PTB=$PTB python3 -B "$root/tests/resuming/main.py" "$@"
+PYTHONPATH=$root/tests/shared PTB=$PTB python3 -B "$root/tests/resumption/main.py" "$@"

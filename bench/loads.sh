@@ -1,5 +1,5 @@
 #!/bin/bash
-# Times loading and translation: bench/loading.sh [OTHER_PTB]
+# Times loading and translation: bench/loads.sh [OTHER_PTB]
 #
 # Three programs stop at their first command: one of a single line, and two of some 32 KB, with short lines and with long ones. A row
 # has the milliseconds of a run, with the start of the process, and those of --list, which loads the program and prints it; a run loads

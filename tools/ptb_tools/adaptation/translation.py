@@ -7,7 +7,7 @@ from typing import Callable, Dict, List, Optional, Sequence, Set, Tuple
 from .dialects import Dialect
 from .layout import Choice, Command, Last, Plain, label
 from .notes import ByHand, Kind, Note
-from .printing import Printer
+from .print_items import Printer
 from .spelling import spelled
 from .storage import Storage
 from .sums import plus
