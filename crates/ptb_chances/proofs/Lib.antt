@@ -18,5 +18,5 @@ mod Tallies
 mod Texts
 mod Totals
 mod Worklists
-mod PassedOn
+mod PassedResults
 mod ChanceSums

@@ -18,7 +18,7 @@ use Rattle.ptb_command.specs.Devices.{ScreenState, Devices, devices, Refusal, Un
 use Rattle.ptb_command.specs.Devices.{NoLine, refused_answers, refused_by}
 use Rattle.ptb_command.specs.Configuration.{Configuration}
 use Rattle.ptb_command.specs.Representation.{Begun}
-use Rattle.ptb_command.specs.Acts.{RefinesTo, Acts}
+use Rattle.ptb_command.specs.CommandOutcomes.{RefinesTo, Acts}
 use Rattle.ptb_command.specs.Locations.{NextIs}
 use Rattle.ptb_command.proofs.Stops.{stops_along}
 

@@ -8,7 +8,7 @@ use Rattle.ptb_command.specs.Actions.{Faults, Action, halt}
 use Rattle.ptb_command.specs.Devices.{Devices, Refusal}
 use Rattle.ptb_command.specs.Stops.{Stops}
 use Rattle.ptb_command.specs.Configuration.{Configuration}
-use Rattle.ptb_command.specs.Acts.{Refines, RefinesTo}
+use Rattle.ptb_command.specs.CommandOutcomes.{Refines, RefinesTo}
 use Rattle.ptb_command.proofs.CommandResults.{Alike}
 
 -- ---- places

@@ -29,7 +29,7 @@ use Rattle.ptb_command.specs.Effects.{action_state}
 use Rattle.ptb_command.specs.Devices.{ScreenState, Devices, with_screen, bytes_alone, Shows, nothing_refused, HasBroken}
 use Rattle.ptb_command.specs.declared.stop.CommandStop.{CommandStop}
 use Rattle.ptb_command.specs.Traces.{Trace, trace, fresh_after, RefinesPart}
-use Rattle.ptb_command.specs.Reports.{IsShown}
+use Rattle.ptb_command.specs.ShowResults.{IsShown}
 use Rattle.ptb_command.specs.Stops.{stop_of_device, as_stop, WantsLine, DeviceFails, Stops, RefinesPartTo, Comes}
 use Rattle.ptb_command.proofs.Exchanges.{with_answers_nil}
 use Rattle.ptb_command.proofs.PartRefinement.{leaves_itself, leaves_to, refines_part_refl}

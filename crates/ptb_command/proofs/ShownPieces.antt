@@ -12,7 +12,7 @@ use Rattle.ptb_command.specs.Act.{newline, fault_word, report_bytes}
 use Rattle.ptb_command.specs.Devices.{nothing_refused}
 use Rattle.ptb_command.specs.Traces.{Trace, RefinesPart}
 use Rattle.ptb_command.specs.Stops.{stop_of_device, Stops, RefinesPartTo}
-use Rattle.ptb_command.specs.Reports.{IsShown}
+use Rattle.ptb_command.specs.ShowResults.{IsShown}
 use Rattle.ptb_command.proofs.Actions.{show_adds}
 use Rattle.ptb_command.proofs.PartRefinement.{refines_part_same, refines_part_then, refines_part_under}
 use Rattle.ptb_command.proofs.Stops.{stops_under, stops_after}

@@ -20,8 +20,8 @@ pub mod Stops
 pub mod Configuration
 pub mod Takeovers
 pub mod Representation
-pub mod Acts
-pub mod Reports
+pub mod CommandOutcomes
+pub mod ShowResults
 pub mod CommandIo
 pub mod ExecutedCommands
 pub mod Loops

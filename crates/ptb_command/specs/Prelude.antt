@@ -39,7 +39,7 @@ pub use Rattle.ptb_command.specs.declared.stack.Open.{Open}
 pub use Rattle.ptb_command.specs.Act.{parts_action, answer_instead, item_action, value_action, target_action}
 pub use Rattle.ptb_command.specs.Act.{first_width, padded_decimal, width_of, is_past, command_action}
 pub use Rattle.ptb_command.specs.Actions.{goes_on, show, work_action, show as show_action}
-pub use Rattle.ptb_command.specs.Acts.{Refines}
+pub use Rattle.ptb_command.specs.CommandOutcomes.{Refines}
 pub use Rattle.ptb_command.specs.CommandIo.{pending_trace, SameBorrows, SameDevices}
 pub use Rattle.ptb_command.specs.Configuration.{Configuration}
 pub use Rattle.ptb_command.specs.Devices.{Devices, with_choices, refused_answers, nothing_refused, refused_by}
@@ -47,7 +47,7 @@ pub use Rattle.ptb_command.specs.Devices.{screen_state, with_screen}
 pub use Rattle.ptb_command.specs.ExecutedCommands.{IsExecuted, context_code}
 pub use Rattle.ptb_command.specs.Execution.{FinishesAlone, FinishesAsking}
 pub use Rattle.ptb_command.specs.Loops.{loop_of_open, AddsStep}
-pub use Rattle.ptb_command.specs.Reports.{IsShown}
+pub use Rattle.ptb_command.specs.ShowResults.{IsShown}
 pub use Rattle.ptb_command.specs.Representation.{Begun}
 pub use Rattle.ptb_command.specs.ScreenOperations.{HasAsked, HasAnswered, StoresLine, ArePartsDone, IsOnlyItem}
 pub use Rattle.ptb_command.specs.ScreenOperations.{IsPartDone, IsPartShown, IsPartTaken, IsShort, ShowsOrTakes}

@@ -8,7 +8,7 @@ mod Order
 mod Lists
 mod Tree
 mod NextRuns
-mod RunsAfter
+mod ListingLaws
 mod Shares
 mod Bounds
 mod RaisedAnswers

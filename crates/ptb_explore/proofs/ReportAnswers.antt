@@ -25,7 +25,7 @@ use Rattle.ptb_explore.specs.Report.{report, report_of}
 use Rattle.ptb_machine.specs.EndingWords.{ending_word}
 use Rattle.ptb_explore.specs.Laws.{AreNumbers, ReportLaws}
 use Rattle.ptb_machine.specs.RunTree.{IsRun, runs_after}
-use Rattle.ptb_explore.proofs.RunsAfter.{listing_laws}
+use Rattle.ptb_explore.proofs.ListingLaws.{listing_laws}
 use Rattle.ptb_machine.proofs.PublicLemmas.{length-bounds}
 use Rattle.ptb_explore.proofs.NextRuns.{is_answer_is}
 use Rattle.ptb_explore.proofs.Shares.{share_laws}

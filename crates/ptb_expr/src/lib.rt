@@ -10,7 +10,7 @@
 //! few steps without a loop over them. The crate re-exports the choosers of `ptb_answers`.
 #![tactic(auto)]
 
-mod eval;
+mod evaluator;
 mod fault;
 mod laws;
 mod operator;
@@ -25,7 +25,7 @@ mod store;
 mod translation;
 mod values;
 
-pub use eval::{evaluate, evaluate_in, target};
+pub use evaluator::{evaluate, evaluate_in, target};
 pub use fault::{Fault, FaultKind, Stop};
 pub use laws::{code_laws, mark_laws, spelling_laws, value_laws};
 pub use operator::Operator;

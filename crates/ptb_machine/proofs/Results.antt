@@ -16,7 +16,7 @@ use Rattle.ptb_command.specs.declared.stop.CommandStop.{CommandStop}
 use Rattle.ptb_command.specs.declared.stop.CommandStop.TheVariants as stops
 use Rattle.ptb_command.specs.Act.{report_bytes}
 use Rattle.ptb_command.specs.Traces.{Trace}
-use Rattle.ptb_command.specs.Reports.{IsShown}
+use Rattle.ptb_command.specs.ShowResults.{IsShown}
 use Rattle.ptb_command.specs.Stops.{UnlessMissed, miss_of}
 use Rattle.ptb_command.proofs.PublicLemmas.{miss_unmissed}
 use Rattle.ptb_machine.specs.CommandResults.{reported, result_of_stop, IsResultOf}

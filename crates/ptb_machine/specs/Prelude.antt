@@ -15,7 +15,7 @@ pub use Rattle.ptb_command.specs.Devices.{Devices, screen_state, with_screen}
 pub use Rattle.ptb_command.specs.ExecutedCommands.{context_code}
 pub use Rattle.ptb_command.specs.Execution.{ContinuesAt}
 pub use Rattle.ptb_command.specs.PlainCommands.{DoesPlainly, AreDone}
-pub use Rattle.ptb_command.specs.Reports.{IsShown}
+pub use Rattle.ptb_command.specs.ShowResults.{IsShown}
 pub use Rattle.ptb_command.specs.Locations.{PlacesAre, NextIs}
 pub use Rattle.ptb_command.specs.Representation.{Represents}
 pub use Rattle.ptb_command.specs.Stacks.{ClosesNewer, loop_of}

@@ -2,7 +2,7 @@
 -- Main lemma: `bound_rows`.
 use Rattle.std.specs.Prelude.{refl}
 use Rattle.ptb_rows.specs.Rows.{BoundRows}
-use Rattle.ptb_rows.proofs.OnPrograms.{on_programs}
+use Rattle.ptb_rows.proofs.Unfoldings.{on_programs}
 
 pub bound_rows : BoundRows
 unfolding on_programs

@@ -2,7 +2,7 @@
 -- Main lemma: `chance_rows`.
 use Rattle.std.specs.Prelude.{refl}
 use Rattle.ptb_rows.specs.Rows.{ChanceRows}
-use Rattle.ptb_rows.proofs.OnPrograms.{on_programs}
+use Rattle.ptb_rows.proofs.Unfoldings.{on_programs}
 
 pub chance_rows : ChanceRows
 unfolding on_programs

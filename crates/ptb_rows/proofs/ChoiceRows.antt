@@ -2,7 +2,7 @@
 -- Main lemma: `choice_rows`.
 use Rattle.std.specs.Prelude.{refl}
 use Rattle.ptb_rows.specs.Rows.{ChoiceRows}
-use Rattle.ptb_rows.proofs.OnPrograms.{on_programs}
+use Rattle.ptb_rows.proofs.Unfoldings.{on_programs}
 
 pub choice_rows : ChoiceRows
 unfolding on_programs

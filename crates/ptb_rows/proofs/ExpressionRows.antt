@@ -1,7 +1,7 @@
 -- This file proves the worked rows of expressions by computation.
 -- Main lemma: `value_rows`.
 use Rattle.std.specs.Prelude.{refl}
-use Rattle.ptb_rows.proofs.OnPrograms.{on_programs}
+use Rattle.ptb_rows.proofs.Unfoldings.{on_programs}
 use Rattle.ptb_rows.specs.ExpressionRows.{ValueRows}
 
 pub value_rows : ValueRows

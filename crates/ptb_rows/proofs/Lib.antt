@@ -1,5 +1,5 @@
 -- This file names the files of lemmas.
-mod OnPrograms
+mod Unfoldings
 mod RunRows
 mod SeedRows
 mod ChoiceRows

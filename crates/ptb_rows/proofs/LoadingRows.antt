@@ -1,7 +1,7 @@
 -- This file proves the worked rows of loading, listing, words and tokens by computation.
 -- Main lemma: `loading_rows`.
 use Rattle.std.specs.Prelude.{refl}
-use Rattle.ptb_rows.proofs.OnPrograms.{on_programs}
+use Rattle.ptb_rows.proofs.Unfoldings.{on_programs}
 use Rattle.ptb_rows.specs.LoadingRows.{LoadingRows, WordRows}
 
 pub loading_rows : LoadingRows

@@ -2,7 +2,7 @@
 -- Main lemma: `long_run_rows`.
 use Rattle.std.specs.Prelude.{refl}
 use Rattle.ptb_rows.specs.Rows.{LongRunRows}
-use Rattle.ptb_rows.proofs.OnPrograms.{on_programs}
+use Rattle.ptb_rows.proofs.Unfoldings.{on_programs}
 
 pub long_run_rows : LongRunRows
 unfolding on_programs

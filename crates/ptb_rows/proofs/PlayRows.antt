@@ -1,7 +1,7 @@
 -- This file proves the worked rows of plain runs by computation.
 -- Main lemmas: `answer_rows`, `loop_rows` and `run_fault_rows`.
 use Rattle.std.specs.Prelude.{refl}
-use Rattle.ptb_rows.proofs.OnPrograms.{on_programs}
+use Rattle.ptb_rows.proofs.Unfoldings.{on_programs}
 use Rattle.ptb_rows.specs.PlayRows.{AnswerRows, PrintRows, InputRows, LoopRows, RunFaultRows}
 use Rattle.ptb_rows.specs.PlayRows.{ArrayRows, LongRows, StepRows}
 

@@ -2,7 +2,7 @@
 -- Main lemma: `program_rows`.
 use Rattle.std.specs.Prelude.{refl}
 use Rattle.ptb_rows.specs.Rows.{ProgramRows}
-use Rattle.ptb_rows.proofs.OnPrograms.{on_programs}
+use Rattle.ptb_rows.proofs.Unfoldings.{on_programs}
 
 pub program_rows : ProgramRows
 unfolding on_programs

@@ -2,7 +2,7 @@
 -- Main lemma: `sample_rows`.
 use Rattle.std.specs.Prelude.{refl}
 use Rattle.ptb_rows.specs.Rows.{SampleRows}
-use Rattle.ptb_rows.proofs.OnPrograms.{on_programs}
+use Rattle.ptb_rows.proofs.Unfoldings.{on_programs}
 
 pub sample_rows : SampleRows
 unfolding on_programs

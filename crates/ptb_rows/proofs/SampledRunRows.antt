@@ -1,7 +1,7 @@
 -- This file proves the worked rows of samples by computation.
 -- Main lemma: `sampled_run_rows`.
 use Rattle.std.specs.Prelude.{refl}
-use Rattle.ptb_rows.proofs.OnPrograms.{on_programs}
+use Rattle.ptb_rows.proofs.Unfoldings.{on_programs}
 use Rattle.ptb_rows.specs.SampledRunRows.{SampledRunRows}
 
 pub sampled_run_rows : SampledRunRows

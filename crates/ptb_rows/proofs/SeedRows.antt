@@ -2,7 +2,7 @@
 -- Main lemma: `seed_rows`.
 use Rattle.std.specs.Prelude.{refl}
 use Rattle.ptb_rows.specs.Rows.{SeedRows}
-use Rattle.ptb_rows.proofs.OnPrograms.{on_programs}
+use Rattle.ptb_rows.proofs.Unfoldings.{on_programs}
 
 pub seed_rows : SeedRows
 unfolding on_programs

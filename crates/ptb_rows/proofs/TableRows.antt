@@ -1,7 +1,7 @@
 -- This file proves the worked rows of chances by computation.
 -- Main lemma: `table_rows`.
 use Rattle.std.specs.Prelude.{refl}
-use Rattle.ptb_rows.proofs.OnPrograms.{on_programs}
+use Rattle.ptb_rows.proofs.Unfoldings.{on_programs}
 use Rattle.ptb_rows.specs.TableRows.{TableRows}
 
 pub table_rows : TableRows

@@ -1,7 +1,7 @@
 -- This file proves the worked rows of runs and of their reports by computation.
 -- Main lemma: `tree_rows`.
 use Rattle.std.specs.Prelude.{refl}
-use Rattle.ptb_rows.proofs.OnPrograms.{on_programs}
+use Rattle.ptb_rows.proofs.Unfoldings.{on_programs}
 use Rattle.ptb_rows.specs.TreeRows.{TreeRows, ReportRows}
 
 pub tree_rows : TreeRows

@@ -26,4 +26,4 @@ mod served_texts;
 mod served_trees;
 mod shared;
 mod stops;
-mod writing;
+mod written_rows;

@@ -3,7 +3,7 @@
 
 use crate::tests::explorers::BRANCHES;
 use crate::tests::shared::{are_asked, expect_rows, expect_same, loaded, plain_rules, table};
-use crate::tests::writing::{Source, Writing, Written, expect_begun};
+use crate::tests::written_rows::{Source, Writing, Written, expect_begun};
 use ptb_explore::{Beginnings, ExploreFault, Form, write_beginnings};
 use ptb_text::Device;
 use std::test::Fail;

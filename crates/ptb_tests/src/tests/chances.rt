@@ -1,7 +1,7 @@
 // This file tests tables of chances, also with writers that fail and where memory is refused.
 
 use crate::tests::shared::{expect_rows, rules, table};
-use crate::tests::writing::{Source, Writing, Written, expect_begun};
+use crate::tests::written_rows::{Source, Writing, Written, expect_begun};
 use ptb_chances::write_chances;
 use ptb_explore::ExploreFault;
 use ptb_text::{Device, DeviceFault};

@@ -1,7 +1,7 @@
 // This file has the explorers of the tests: of all runs of a program, or of those after or under a list.
 
 use crate::tests::shared::rules;
-use crate::tests::writing::{Source, Writing};
+use crate::tests::written_rows::{Source, Writing};
 use ptb_explore::{ExploreFault, Explorer, Form, Marked, OpenFault, write_all_runs};
 use ptb_machine::{Line, Rules};
 use ptb_text::{Device, Program};

@@ -6,7 +6,7 @@ use crate::tests::shared::{
     FOUR_OF_3, FOUR_OF_4, ONE, ONE_OF_1, ONE_OF_2, ONE_OF_3, ONE_OF_4, OUT_OF_MEMORY, Row, THREE,
     TWO, TWO_OF_2, TWO_OF_3, ZERO, are_asked, expect_rows, expect_same, loaded, plain_rules, table,
 };
-use crate::tests::writing::{Written, has_just, is_begun, is_result, refused_after, tell};
+use crate::tests::written_rows::{Written, has_just, is_begun, is_result, refused_after, tell};
 use ptb_explore::{ExploreFault, Explorer, Form, OpenFault, write_all_runs};
 use ptb_machine::{Ending, Line};
 use ptb_text::{Device, Program};

@@ -5,7 +5,7 @@ use crate::tests::shared::{
     ONE_OF_6, Row, THREE, THREE_OF_3, ZERO, are_asked, expect_rows, expect_same, loaded,
     plain_rules, table,
 };
-use crate::tests::writing::{Source, Writing, Written, source_of};
+use crate::tests::written_rows::{Source, Writing, Written, source_of};
 use ptb_explore::{Form, Marked, OpenFault};
 use ptb_machine::{Ending, ending_word};
 use ptb_text::Program;

@@ -2,7 +2,7 @@
 
 use crate::tests::explorers::BRANCHES;
 use crate::tests::shared::{expect_rows, rules, table};
-use crate::tests::writing::{Source, Writing, Written, expect_begun};
+use crate::tests::written_rows::{Source, Writing, Written, expect_begun};
 use ptb_explore::{ExploreFault, Form, Sample, write_sample};
 use ptb_text::Device;
 use std::test::Fail;

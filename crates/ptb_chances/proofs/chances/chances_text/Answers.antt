@@ -4,7 +4,7 @@ use Rattle.ptb_machine.specs.Play.{play}
 use Rattle.ptb_machine.specs.Questions.{most_answers}
 use Rattle.ptb_chances.specs.Chances.{table_text}
 use Rattle.ptb_machine.specs.RunTree.{tree}
-use Rattle.ptb_chances.proofs.PassedOn.{if_ok}
+use Rattle.ptb_chances.proofs.PassedResults.{if_ok}
 use Rattle.ptb_chances.proofs.PositiveAccounts.{all_positive}
 use Rattle.ptb_chances.proofs.Tables.{table_is}
 use Rattle.ptb_chances.proofs.chances.chances_text.Goals as goal

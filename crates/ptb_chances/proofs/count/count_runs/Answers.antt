@@ -1,5 +1,5 @@
 -- This file answers that what was counted is the account of all runs.
-use Rattle.ptb_chances.proofs.PassedOn.{if_ok}
+use Rattle.ptb_chances.proofs.PassedResults.{if_ok}
 use Rattle.ptb_chances.proofs.SettledPlays.{accounted_last}
 use Rattle.ptb_chances.proofs.count.count_runs.Goals as goal
 

@@ -1,5 +1,5 @@
 -- This file answers that the listings of every reader have their laws.
-use Rattle.ptb_explore.proofs.RunsAfter.{listing_laws}
+use Rattle.ptb_explore.proofs.ListingLaws.{listing_laws}
 use Rattle.ptb_explore.proofs.laws.listing_laws.Goals as goal
 
 pub returns : goal.returns

@@ -1,6 +1,6 @@
 -- This file answers that the runs of each program have the laws of trees, of listings, of shares, of the lists that
 -- split them and of samples.
-use Rattle.ptb_explore.proofs.RunsAfter.{listing_laws}
+use Rattle.ptb_explore.proofs.ListingLaws.{listing_laws}
 use Rattle.ptb_explore.proofs.ReportAnswers.{report_laws}
 use Rattle.ptb_explore.proofs.Samples.{sample_laws}
 use Rattle.ptb_explore.proofs.Shares.{share_laws}

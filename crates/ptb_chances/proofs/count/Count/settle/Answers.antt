@@ -3,7 +3,7 @@ use Rattle.std.proofs.Common.{rules, ◌<◌, w16, FitsSigned, to_z-of_z}
 use Rattle.std.specs.Prelude.{unsigned_abs}
 use Rattle.ptb_machine.specs.Questions.{most_answers}
 use Rattle.ptb_chances.specs.WaitingPlays.{Puts, gone_to, planned, standings}
-use Rattle.ptb_chances.proofs.PassedOn.{on_ok}
+use Rattle.ptb_chances.proofs.PassedResults.{on_ok}
 use Rattle.ptb_chances.proofs.WorkLeft.{work_asked, work_gone, work_some}
 use Rattle.ptb_chances.proofs.SettledPlays.{asked_positive, one_opens, planned_less, settled_asked}
 use Rattle.ptb_chances.proofs.SettledPlays.{settled_gone, settled_over}

@@ -3,7 +3,7 @@ use Rattle.std.proofs.Common.{◌≡◌, map, refl, sym}
 use Rattle.std.specs.BTreeMap.{insert_entry}
 use Rattle.std.specs.Ordering.{nat_cmp}
 use Rattle.ptb_chances.specs.WaitingPlays.{planned}
-use Rattle.ptb_chances.proofs.PassedOn.{on_ok_four}
+use Rattle.ptb_chances.proofs.PassedResults.{on_ok_four}
 use Rattle.ptb_chances.proofs.Worklists.{joined_there, put_alone, put_aside, put_with}
 use Rattle.ptb_chances.proofs.worklist.Worklist.add.Goals as goal
 

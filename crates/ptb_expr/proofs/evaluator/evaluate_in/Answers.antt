@@ -6,7 +6,7 @@ use Rattle.ptb_expr.specs.Value.{value}
 use Rattle.ptb_expr.proofs.CodedTrees.{coded, worked_out, is_whole, is_whole_then}
 use Rattle.ptb_expr.proofs.Evaluation.{where_whole, where_faulty}
 use Rattle.ptb_expr.proofs.PlainSteps.{evaluates_plain}
-use Rattle.ptb_expr.proofs.eval.evaluate_in.Goals as goal
+use Rattle.ptb_expr.proofs.evaluator.evaluate_in.Goals as goal
 
 -- a number alone
 pub returns-in-Some : goal.returns-in-Some

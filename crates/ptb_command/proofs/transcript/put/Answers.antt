@@ -2,7 +2,7 @@
 use Rattle.std.proofs.Common.{refl}
 use Rattle.ptb_command.proofs.ShownBytes.{shown, not_shown}
 use Rattle.ptb_command.proofs.ShownPieces.{shown_err}
-use Rattle.ptb_command.proofs.output.put.Goals as goal
+use Rattle.ptb_command.proofs.transcript.put.Goals as goal
 
 pub returns-in_err-put : goal.returns-in_err-put
 returns-in_err-put g c d cells =
