@@ -5,8 +5,8 @@ ghost use Rattle.std.specs.Prelude.{drop, take};
 ghost use Rattle.ptb_command.specs.Prelude.{Cells, goes_on, show_action, Devices, screen_state, with_screen};
 ghost use Rattle.ptb_command.specs.Prelude.{nothing_refused, as_stop, trace, with_pending, Comes};
 
-use crate::transcript::{put, show};
 use crate::stop::CommandStop;
+use crate::transcript::{put, show};
 use ptb_devices::Screen;
 use ptb_text::{ByteBuffer, DeviceFault};
 use std::marker::Model;

@@ -114,7 +114,7 @@ module _ (o l : Options) (same : l ≡ o) where
         → Requests o (record { rules = rules; memory = memory; mode = mode; in_range = size })
     asked kept rules memory mode size given ruled held by_mode =
         subst (λ (x : Options). Requests x (record { rules = rules; memory = memory; mode = mode; in_range = size }))
-            same
+        same
         (record {
           clash = unclashed;
           rules = ruled;

@@ -349,7 +349,10 @@ const CHANGES: &[(&str, Change, Likeness)] = &[
 // Changes registers.
 fn change(registers: &mut Registers, (place, a, opens): Change) {
     registers.place = match place {
-        Some((statement, at)) => Some(Location { statement, offset: at }),
+        Some((statement, at)) => Some(Location {
+            statement,
+            offset: at,
+        }),
         None => None,
     };
     registers.store.set(letter(b'A'), a);

@@ -67,7 +67,14 @@ fn expect_next(
     code: &ProgramCode,
     (statement, at, guess, wanted): Place,
 ) {
-    let found = match code.next(program, Location { statement, offset: at }, guess) {
+    let found = match code.next(
+        program,
+        Location {
+            statement,
+            offset: at,
+        },
+        guess,
+    ) {
         Some(next) => {
             let name = name(next.operations.first());
             Some((next.index, next.place.statement, next.place.offset, name))
@@ -170,7 +177,10 @@ fn text_with_much_code(alloc: Global) -> Result<Vec<u8>, AllocError> {
 
 // Whether the command at the beginning of a statement has code.
 fn has_code(code: &ProgramCode, program: &Program, statement: usize) -> bool {
-    let place = Location { statement, offset: 0 };
+    let place = Location {
+        statement,
+        offset: 0,
+    };
     code.next(program, place, 0).is_some()
 }
 

@@ -15,7 +15,10 @@ type Opening = (u8, (usize, usize), i16, i16);
 
 // Opens a call or a loop, and says whether there was room.
 fn open(stack: &mut Stack, (byte, (statement, at), limit, step): Opening) -> bool {
-    let back = Location { statement, offset: at };
+    let back = Location {
+        statement,
+        offset: at,
+    };
     match Letter::new(byte) {
         Some(letter) => stack.open_loop(OpenLoop {
             back,

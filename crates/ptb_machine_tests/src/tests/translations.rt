@@ -126,7 +126,11 @@ fn translations(rt: HostRuntime) {
         assert!(rt; text.len() <= 255);
         let mut cursor = Cursor::new(text.as_bytes(), 0);
         let next_then = translate(&mut cursor, &mut code);
-        let found = (code.operations().len(), last_fault(code.expression_steps()), next_then);
+        let found = (
+            code.operations().len(),
+            last_fault(code.expression_steps()),
+            next_then,
+        );
         expect_eq(&rt, text, found, (operations.len(), malformed, next));
         let mut left = code.operations();
         for &want in operations {

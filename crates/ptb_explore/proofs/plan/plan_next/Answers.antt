@@ -48,7 +48,7 @@ returns-in_ok-replace_plan-in-Some-clause-plan c =
     let raised : to_z w16 (of_z w16 (to_z w16 (of_z w16 answer) +ℤ pos 1)) ≡ answer +ℤ pos 1 =
     omega (arith, ints, room, there) in
     let plan = ap answers_in (c.in_ok-replace_plan-in-Some.ensures.asked ∙ front_twice asked i _)
-        ∙ front_answers asked i _
+    ∙ front_answers asked i _
     ∙ ap (λ k. take i (answers_in asked) ++ k ∷ []) (raised ∙ ap (λ (k : ℤ). k +ℤ pos 1) (sym there)) in
     rw c.in-AtRun.is (place, plan)
 
