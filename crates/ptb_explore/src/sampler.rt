@@ -11,7 +11,7 @@ use crate::report_text::Parts;
 use crate::report_writer::ReportWriter;
 use ptb_answers::{Form, Seeded};
 use ptb_machine::{
-    Ending, Line, Lines, Machine, Player, Rules, TextScreen, memory_refusal, run_laws, word,
+    Ending, Line, Lines, Machine, Player, Rules, TextScreen, ending_word, memory_refusal, run_laws,
 };
 use ptb_text::{DeviceFault, Program, Write};
 use std::alloc::{AllocError, Global};
