@@ -1,4 +1,5 @@
 -- This file states the laws of tables of chances.
+-- Main definition: `TableLaws`.
 --     IsRowOf play all w       a row has what the runs with its result have
 --     ResultsIn play all r     one of these runs has the result r
 --     TableLaws play most      what the table of all runs has, where none has more answers than `most`

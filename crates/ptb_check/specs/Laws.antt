@@ -1,4 +1,5 @@
 -- This file states that the mistakes of a program are all those that its runs can meet in its text.
+-- Main definition: `CheckLaws`.
 --     IsReported p q c         the command c, whose place is q, has no mistake, or its mistake is one of the program's
 --     IsJumpNowhere p c        the command c is a jump to a written number that no statement has
 --     FaultsAt p S             so it is with the command that is next in the state S

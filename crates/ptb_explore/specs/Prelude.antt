@@ -20,7 +20,8 @@ pub use Rattle.ptb_explore.specs.Copies.{Agrees, AreCopies, PlaysOn, kept_runs, 
 pub use Rattle.ptb_explore.specs.Copies.{WentBack, last_steps, ArePlaces}
 pub use Rattle.ptb_explore.specs.Explorations.{AreCopiesAt, HasRunCopies, IsSameGame, NextPlays, game_of, play_of}
 pub use Rattle.ptb_explore.specs.Explorations.{most_of, IsSameListing, exploration, IsAdded, IsPlayed, report_finish}
-pub use Rattle.ptb_explore.specs.Explorations.{CanPlayOn, NextReports, Resumes, Reports, Exploration, AreKeptAt}
+pub use Rattle.ptb_explore.specs.Explorations.{CanPlayOn, NextReports, PlaysOneMore, PlaysRuns, Resumes, Reports}
+pub use Rattle.ptb_explore.specs.Explorations.{Exploration, AreKeptAt}
 pub use Rattle.ptb_explore.specs.Laws.{ListingLaws, ReportLaws, ShareLaws, TreeLaws}
 pub use Rattle.ptb_explore.specs.Listing.{FailsToWrite, FailsOnlyToWrite, NextWrites, WritesRuns, less_one}
 pub use Rattle.ptb_explore.specs.Listing.{FailsAfterSome, FailsOnlyAfterSome}

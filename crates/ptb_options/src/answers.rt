@@ -58,12 +58,7 @@ impl<T> From<Vec<T>> for ItemList<T> {
 /// [`UsageFault::BadList`] where the text spells no list; [`UsageFault::Memory`] where a growth was
 /// refused memory, and only for a list that has items.
 pub(crate) fn parse_list(alloc: Global, text: &str) -> Result<MarkedAnswers, UsageFault>
-    ensures ok { IfOk result (SpellsList text.now) }
-    ensures bad { result ≡ Err UsageFault.BadList → IsMisspelled text.now }
-    ensures memory { result ≡ Err UsageFault.Memory
-        → (list : List Marked) × SpellsList text.now list × (list ≢ []) }
-    ensures fault { IfErr result IsListFault }
-    ensures one { (a b : List Marked) → SpellsList text.now a → SpellsList text.now b → a ≡ b }
+    ensures { IsListRead (SpellsList text.now) result }
 {
     parse_as::<Marked>(alloc, text, Bounds::Allowed)
 }
@@ -75,12 +70,7 @@ pub(crate) fn parse_list(alloc: Global, text: &str) -> Result<MarkedAnswers, Usa
 /// [`UsageFault::BadList`] where the text spells no such list; [`UsageFault::Memory`] where a growth
 /// was refused memory, and only for a list that has items.
 pub(crate) fn parse_answers(alloc: Global, text: &str) -> Result<PlainAnswers, UsageFault>
-    ensures ok { IfOk result (SpellsAnswers text.now) }
-    ensures bad { result ≡ Err UsageFault.BadList → HasNoAnswers text.now }
-    ensures memory { result ≡ Err UsageFault.Memory
-        → (a : List ℤ) × SpellsAnswers text.now a × (a ≢ []) }
-    ensures fault { IfErr result IsListFault }
-    ensures one { (a b : List ℤ) → SpellsAnswers text.now a → SpellsAnswers text.now b → a ≡ b }
+    ensures { IsListRead (SpellsAnswers text.now) result }
 {
     parse_as::<i16>(alloc, text, Bounds::Refused)
 }

@@ -2,12 +2,9 @@
 use Rattle.std.proofs.Common.{◌∙◌, [], Err, Ok, ap, false, subst, sym}
 use Rattle.std.specs.Prelude.{IfSome, slice_get}
 use Rattle.ptb_command.specs.declared.operation.Operation.TheVariants.{Input}
-use Rattle.ptb_command.specs.declared.execution.parts.CodeInText.{CodeInText}
-use Rattle.ptb_command.specs.Configuration.{configuration}
-use Rattle.ptb_command.specs.ScreenOperations.{IsPartTaken}
-use Rattle.ptb_command.specs.Stops.{NotMissed}
-use Rattle.ptb_command.proofs.MissedLines.{at_err, missed_err}
-use Rattle.ptb_command.proofs.ShownParts.{shown_stops, shown_done}
+use Rattle.ptb_command.specs.Act.{first_width}
+use Rattle.ptb_command.specs.ScreenOperations.{ArePartsDone, IsPartTaken}
+use Rattle.ptb_command.proofs.ShownCommands.{command_stopped, command_done}
 use Rattle.ptb_command.proofs.TakenItems.{item_taken}
 use Rattle.ptb_command.proofs.registers.Registers.do_input.Given as given
 use Rattle.ptb_command.proofs.registers.Registers.do_input.Goals as goal
@@ -61,51 +58,14 @@ item_stored g c =
     g.met.L.LineSource.falls _ item c.in-Some.ensures.some c.args.self.now.store c.take_at_hand.new.store
     c.args.io.now c.take_at_hand.new.io c.begin.new.self c.take_at_hand.new.output
     c.take_at_hand.result (c.in-Ok-true.is ∙ ap Ok c.in-Ok-true.field-0-test) c.begin.ensures.pending
-    c.begin.ensures.width taken) in
-    record {
-      given = done.given;
-      gives = done.gives;
-      acts = λ q t word from before count spent begun is.
-          shown_stops _ q _ _ _ t word from _ c.line_at.ensures.there begun is _ _ _ _ _
-          (record { place = refl; stack = refl; steps = refl })
-          _ _ c.from_residual.ensures.1 (λ there. done.comes before word from there);
-      missed = missed_err (g.L.LineSource.refused c.show_gathered.new.io.source.now)
-          (NotMissed c.args.io.now.rules.choose (g.L.LineSource.missed c.args.io.now.source.now) (g.L.LineSource.missed
-          c.show_gathered.new.io.source.now) (g.L.LineSource.most c.show_gathered.new.io.source.now))
-          _ _ c.from_residual.ensures.1 done.missed;
-      place = at_err _ _ refl;
-      same = done.same;
-    }
+    c.begin.ensures.width (c.take_at_hand.ensures c.line_at.result.1.now c.args.context.now.steps.now
+    (Input item.prompt item.destination) c.in-Some-new.ensures)
+
+pub returns-in_err-following : goal.returns-in_err-following
+returns-in_err-following g c = command_stopped _ _ _ _ _ _ _ c.line_at.ensures.there _ _ _ _ _ _
+    c.from_residual.ensures.1 (c.in_err-following.ensures _ _ _ _
+    (item_stored g (goal.at.returns-in_err-following g c).After-show_gathered))
 
 pub returns : goal.returns
-returns g c =
-    let item = c.in-Some.item in
-    let code : CodeInText = record {
-      text = c.line_at.result.1;
-      operations = c.args.context.now.operations;
-      steps = c.args.context.now.steps;
-    } in
-    let taken = c.take_at_hand.ensures c.line_at.result.1.now c.args.context.now.steps.now
-    (Input item.prompt item.destination) c.in-Some-new.ensures in
-    let done = c.in_ok-following.ensures code c.args.self.now.store c.take_at_hand.new.store c.args.io.now
-    (item_taken g.C.Chooser g.S.Screen g.L.LineSource g.met.L.LineSource.gives_none g.met.L.LineSource.gives_more
-    g.met.L.LineSource.falls code item c.in-Some.ensures.some c.args.self.now.store c.take_at_hand.new.store
-    c.args.io.now c.take_at_hand.new.io c.begin.new.self c.take_at_hand.new.output
-    c.take_at_hand.result (c.in-Ok-true.is ∙ ap Ok c.in-Ok-true.field-0-test) c.begin.ensures.pending
-    c.begin.ensures.width taken) in
-    record {
-      given = done.given;
-      gives = done.gives;
-      acts = λ q t word from before count spent begun is.
-          shown_done _ q _ _ _ t word from _ c.line_at.ensures.there begun is _
-          (record (configuration c.args.self.now count c.show_gathered.new.io.fresh spent) {
-            cells = c.take_at_hand.new.store;
-          })
-          _ _ _ (record { place = refl; stack = refl; steps = refl })
-          c.from.result refl c.command_laws.ensures c.in_ok-following.following c.from.ensures
-          (λ there. done.ends word from there)
-          (λ there. done.comes before word from there);
-      missed = done.missed;
-      place = tt;
-      same = done.same;
-    }
+returns g c = command_done _ _ _ _ _ _ _ c.line_at.ensures.there _ _ _ _ c.command_laws.ensures _ _ c.from.ensures
+    (c.in_ok-following.ensures _ _ _ _ (item_stored g (goal.at.returns g c).After-show_gathered))
