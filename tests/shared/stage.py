@@ -1,4 +1,4 @@
-"""This file makes a folder in which the program, its tools and its examples stand as at the root, for commands of the documents."""
+"""This file makes a folder that has the program, its tools and its examples as the root has, for commands of the documents."""
 
 import contextlib
 import os

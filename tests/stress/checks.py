@@ -531,7 +531,7 @@ def check_run(trial, report):
 
 
 def check_fewer_steps(trial, report):
-    """With fewer commands than its own a run ends at the limit, and shows a beginning of its transcript."""
+    """With fewer commands than its own a run ends at the limit, and shows a prefix of its transcript."""
     shown = report.transcript
     for steps in (report.steps - 1, trial.chance.randint(1, report.steps - 1)):
         call = trial.plain(report.answers, steps)
@@ -542,7 +542,7 @@ def check_fewer_steps(trial, report):
 
 
 def check_fewer_answers(trial, report):
-    """With a beginning of its answers a run ends where no answer is left, and shows a beginning of its transcript."""
+    """With a prefix of its answers a run ends where no answer is left, and shows a prefix of its transcript."""
     answers = report.answers
     for count in sorted(trial.chance.sample(range(len(answers)), min(2, len(answers)))):
         call = trial.plain(answers[:count])

@@ -60,12 +60,12 @@ def report_text(play):
 
 
 def spelled(answers):
-    """The list as a word of the command line."""
+    """The list as an argument."""
     return ",".join(map(str, answers)) or "none"
 
 
 def marked(answers, bounds):
-    """The list as a word of the command line, each answer with its bound; where there is no bound, the answer alone."""
+    """The list as an argument, each answer with its bound; where there is no bound, the answer alone."""
     items = [f"{answer}/{bound}" if bound else str(answer) for answer, bound in zip(answers, bounds)]
     return ",".join(items) or "none"
 
