@@ -6,6 +6,8 @@ use Rattle.std.proofs.Common.{arith, append_assoc, append-nil, length, take, dro
 use Rattle.std.proofs.Common.{length-drop}
 use Rattle.ptb_text.specs.Lines.{lines}
 use Rattle.ptb_text.specs.Statements.{StoredProgram}
+use Rattle.ptb_text.specs.declared.device_fault.DeviceFault.{DeviceFault}
+use Rattle.ptb_text.specs.declared.device_fault.DeviceFault.TheVariants as fails
 use Rattle.ptb_answers.specs.declared.pause.Pause.{Pause}
 use Rattle.ptb_answers.specs.declared.pause.Pause.TheVariants as pauses
 use Rattle.ptb_answers.specs.Outcome.{Answers, Outcome, Asks, Out, go_on, map_outcome, is_open}
@@ -22,8 +24,9 @@ use Rattle.ptb_machine.specs.Laws.{RunLaws}
 use Rattle.ptb_command.specs.Devices.{ScreenState, devices, Refusal, nothing_refused, refused_by}
 use Rattle.ptb_command.specs.Configuration.{Configuration}
 use Rattle.ptb_command.specs.Effects.{act_state}
-use Rattle.ptb_command.specs.Stops.{AsksUnanswered, IsOutOfLines}
+use Rattle.ptb_command.specs.Stops.{AsksUnanswered, DeviceFails, IsOutOfLines}
 use Rattle.ptb_devices.specs.Sources.{Gives, LineList}
+use Rattle.ptb_machine.specs.RunFaults.{fault_of_device}
 use Rattle.ptb_machine.specs.Steps.{FitsProgram, PlainTurns, DoesStep}
 use Rattle.ptb_machine.specs.TurnResults.{StepsTo, goes, ends, StepComes}
 use Rattle.ptb_chances.specs.Chances.{last_line}
@@ -257,21 +260,25 @@ module _ (laws : RunLaws) (p : StoredProgram) (rules : Rules) where
     never_out opens is = let w : Comes (Ok (Some endings.BadAnswer)) = comes (Ok (Some endings.BadAnswer)) is in
         turn_out S m new c l s t given left rest most few u w.0 w.1 opens
 
-    never_unread : r ≡ Err faults.Read → ⊥
-    never_unread is = let w : Comes (Err faults.Read) = comes (Err faults.Read) is in
-        elim w.broken.0.by [ inl x ↦ x | inr x ↦ x ]
-
-    never_unwritten : r ≡ Err faults.Write → ⊥
-    never_unwritten is =
-        let w : Comes (Err faults.Write) = comes (Err faults.Write) is in
+    -- bytes and lines are in memory
+    by_device : (device : DeviceFault)
+        → DeviceFails (refused_by (RefusedByPlanAnswers l) (λ _. ⊥) (Some rest))
+        (StepsTo p.lines new (devices c (text_state s) most rules.choose []) u.state rest (turn p rules.limit u.state))
+        (devices (plan_choices l) (text_state t) few rules.choose given) act_state (Over endings.NoInput) device
+        → fault_of_device device ≡ faults.Memory
+    by_device fails.Read w = absurd w.broken.0
+    by_device fails.TooLong w = absurd w.broken.0
+    by_device fails.Write w =
         let none : w.screen.failures ≡ 0 = w.comes.exchanges.unfailed in
         elim w.broken.0 [ inl x ↦ absurd (omega (arith, none, x)) | inr x ↦ absurd (omega (arith, none, x)) ]
+    by_device fails.Memory w = refl
 
-    -- bytes and lines are in memory
     pub only_memory : (r ≡ Err faults.Spent → ⊥) → (f : RunFault) → r ≡ Err f → f ≡ faults.Memory
     only_memory unspent faults.Memory is = refl
-    only_memory unspent faults.Read is = absurd (never_unread is)
-    only_memory unspent faults.Write is = absurd (never_unwritten is)
+    only_memory unspent faults.Read is =
+        let w : Comes (Err faults.Read) = comes (Err faults.Read) is in w.1 ∙ by_device w.0 w.2
+    only_memory unspent faults.Write is =
+        let w : Comes (Err faults.Write) = comes (Err faults.Write) is in w.1 ∙ by_device w.0 w.2
     only_memory unspent faults.Spent is = absurd (unspent is)
 
 -- where a list can give no line, none is left

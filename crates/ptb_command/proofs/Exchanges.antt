@@ -8,12 +8,11 @@ use Rattle.std.specs.Io.KnownBytes.{Appends}
 use Rattle.ptb_text.specs.Device.{HasFailed}
 use Rattle.ptb_answers.specs.Outcome.{Answers}
 use Rattle.ptb_answers.specs.Choices.{Choices, with_answers, with_bounds}
-use Rattle.ptb_command.specs.Breakage.{Breakage}
-use Rattle.ptb_command.specs.Breakage as errors
+use Rattle.ptb_text.specs.declared.device_fault.DeviceFault.{DeviceFault}
 use Rattle.ptb_text.specs.declared.device_fault.DeviceFault.TheVariants as faults
 use Rattle.ptb_command.specs.Devices.{ScreenState, Devices, Exchange, no_exchange, both_exchanges}
 use Rattle.ptb_command.specs.Devices.{Shows, Exchanges, MayFollow, Refusal, Unanswered, Unread}
-use Rattle.ptb_command.specs.Devices.{HasNoMemory, IsUnread, HasBroken}
+use Rattle.ptb_command.specs.Devices.{HasNoMemory, HasBroken}
 use Rattle.ptb_answers.specs.declared.pause.Pause.TheVariants as pauses
 
 -- ---- choices
@@ -105,22 +104,14 @@ no_memory_from refused others a b e more h = record {
   ];
 }
 
-unread_from : (refused others : Refusal → Type 0) → ((r : Refusal) → refused r → others r) → IsUnread refused
-    → IsUnread others
-unread_from refused others more h = record {
-  by = elim h.by [
-    | inl x ↦ inl (more (Unread faults.Read) x)
-    | inr x ↦ inr (more (Unread faults.TooLong) x)
-  ];
-}
-
 -- what has broken since then has broken since before, where no write has failed between, and for whoever sees more
 -- refusals
 pub has_broken_from : (refused others : Refusal → Type 0) → ((r : Refusal) → refused r → others r)
-    → (a b c : ScreenState) → b.failures ≡ a.failures → b.takes_memory ≡ a.takes_memory → (e : Breakage)
-    → HasBroken refused b c e → HasBroken others a c e
-has_broken_from refused others more a b c same memory errors.Memory h =
+    → (a b c : ScreenState) → b.failures ≡ a.failures → b.takes_memory ≡ a.takes_memory → (fault : DeviceFault)
+    → HasBroken refused b c fault → HasBroken others a c fault
+has_broken_from refused others more a b c same memory faults.Memory h =
     (no_memory_from refused others a.takes_memory b.takes_memory (sym memory) more h.0, h.1 ∙ same)
-has_broken_from refused others more a b c same memory errors.Read h = (unread_from refused others more h.0, h.1 ∙ same)
-has_broken_from refused others more a b c same memory errors.Write h =
+has_broken_from refused others more a b c same memory faults.Read h = (more (Unread faults.Read) h.0, h.1 ∙ same)
+has_broken_from refused others more a b c same memory faults.TooLong h = (more (Unread faults.TooLong) h.0, h.1 ∙ same)
+has_broken_from refused others more a b c same memory faults.Write h =
     (subst (λ (x : ℕ). HasFailed x c.failures) same h.0, omega (arith, same, h.1))

@@ -138,9 +138,7 @@ module _ {A X : Type 0} (refused : Refusal → Type 0) (o m : Trace) (f : Action
         pause = w.pause;
         refuses = w.refuses;
       }
-  finished d fresh cells a (Err stops.Memory) k h = cc
-  finished d fresh cells a (Err stops.Unread) k h = cc
-  finished d fresh cells a (Err stops.Unwritten) k h = cc
+  finished d fresh cells a (Err (stops.Device fault)) k h = cc
 
   -- the screen breaks
   module _ (n : Trace) (adds : (x : X) → Adds (ok x)) (e : CommandStop)
@@ -161,6 +159,4 @@ module _ {A X : Type 0} (refused : Refusal → Type 0) (o m : Trace) (f : Action
         let w = stop_there (stops.Pause z) k h in
         breaks_before w.left
         (record { at = λ S a. record { shown = w.continues.begins S a; lines = w.continues.takes S a } }) w.comes
-    finish_breaks (Err stops.Memory) k h = cc
-    finish_breaks (Err stops.Unread) k h = cc
-    finish_breaks (Err stops.Unwritten) k h = cc
+    finish_breaks (Err (stops.Device fault)) k h = cc

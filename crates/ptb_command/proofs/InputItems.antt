@@ -24,8 +24,6 @@ use Rattle.ptb_command.specs.declared.ending.Ending.TheVariants as endings
 use Rattle.ptb_text.specs.declared.device_fault.DeviceFault.{DeviceFault}
 use Rattle.ptb_text.specs.declared.device_fault.DeviceFault.TheVariants as reads
 use Rattle.ptb_devices.specs.Sources.{IsSourceFault}
-use Rattle.ptb_command.specs.Breakage.{Breakage}
-use Rattle.ptb_command.specs.Breakage as errors
 use Rattle.ptb_command.specs.declared.stop.CommandStop.{CommandStop}
 use Rattle.ptb_command.specs.declared.stop.CommandStop.TheVariants as stops
 use Rattle.ptb_command.specs.Commands.{Part, Take}
@@ -42,7 +40,7 @@ use Rattle.ptb_command.specs.Devices.{Devices, Exchanges, no_exchange, with_choi
 use Rattle.ptb_command.specs.Devices.{Unread, NoLine, refused_answers}
 use Rattle.ptb_command.specs.Devices.{HasBroken}
 use Rattle.ptb_command.specs.Traces.{Trace, trace, with_pending, still_pending, state_after, once_shown, RefinesPart}
-use Rattle.ptb_command.specs.Stops.{stop_of, stop_of_device, LacksLine, WantsLine, DeviceFails, Stops}
+use Rattle.ptb_command.specs.Stops.{stop_of, LacksLine, WantsLine, DeviceFails, Stops}
 use Rattle.ptb_command.specs.Stops.{RefinesPartTo, Comes}
 use Rattle.ptb_command.proofs.Effects.{takes_joined, ask_lines, input_part, input_takes}
 use Rattle.ptb_command.proofs.Exchanges.{shows_nothing, with_answers_nil}
@@ -472,17 +470,16 @@ module _ (said : List ℕ) (x : Tree) (prompt : List ℕ) where
   lacks_line at S (Some n) e = λ h. ap (λ (f : Answers → Outcome (Progress (Unit {0})) State). f []) e
       ∙ instead_asks n at h S
 
-  line_wanted : (at : Target) (e : Breakage) → WantsLine e (Halts (Ends endings.NoInput)) [] (wants at)
+  line_wanted : (at : Target) → WantsLine (Halts (Ends endings.NoInput)) [] (wants at)
   unfolding wants answer_by
-  line_wanted at errors.Read = (refl, λ S k. lacks_line at S S.choose (ap (λ ls. answer_by at ls S) k))
-  line_wanted at errors.Memory = tt
-  line_wanted at errors.Write = tt
+  line_wanted at = (refl, λ S k. lacks_line at S S.choose (ap (λ ls. answer_by at ls S) k))
 
-  unread : (refused : Refusal → Type 0) {o m : Trace} (most : ℕ) (at : Target) (e : Breakage) → most ≤ m.devices.most
-      → RefinesPart o m (ask_for said x prompt) (goes_on at) → HasBroken refused m.devices.screen m.devices.screen e
+  unread : (refused : Refusal → Type 0) {o m : Trace} (most : ℕ) (at : Target) (f : DeviceFault)
+      → most ≤ m.devices.most
+      → RefinesPart o m (ask_for said x prompt) (goes_on at) → HasBroken refused m.devices.screen m.devices.screen f
       → DeviceFails refused (RefinesPartTo o (with_most most m) (item_action said x prompt))
-      (with_most most m).devices action_state (Halts (Ends endings.NoInput)) e
-  unread refused {m = m} most at e fewer a h = record {
+      (with_most most m).devices action_state (Halts (Ends endings.NoInput)) f
+  unread refused {m = m} most at f fewer a h = record {
     left = wants at;
     screen = m.devices.screen;
     bytes = [];
@@ -493,7 +490,7 @@ module _ (said : List ℕ) (x : Tree) (prompt : List ℕ) where
           (more.0, more.1 ∙ ap (λ s. s ++ more.0) (sym (append-nil S.shown)));
       takes = λ S b. ((wants_adds at).at S b).lines;
     };
-    line = line_wanted at e;
+    line = λ _. line_wanted at;
     broken = h;
   }
 
@@ -501,14 +498,12 @@ module _ (said : List ℕ) (x : Tree) (prompt : List ℕ) where
       → IsSourceFault f
       → most ≤ m.devices.most → RefinesPart o m (ask_for said x prompt) (goes_on at) → refused (Unread f)
       → Stops refused (RefinesPartTo o (with_most most m) (item_action said x prompt)) (with_most most m).devices
-      (stop_of_device f)
-  take_unread refused most at reads.Read k fewer a h =
-      unread refused most at errors.Read fewer a (record { by = inl h }, refl)
-  take_unread refused most at reads.TooLong k fewer a h =
-      unread refused most at errors.Read fewer a (record { by = inr h }, refl)
+      (stops.Device f)
+  take_unread refused most at reads.Read k fewer a h = unread refused most at reads.Read fewer a (h, refl)
+  take_unread refused most at reads.TooLong k fewer a h = unread refused most at reads.TooLong fewer a (h, refl)
   take_unread refused most at reads.Write k fewer a h = absurd k
   take_unread refused most at reads.Memory k fewer a h =
-      unread refused most at errors.Memory fewer a (record { by = inr (inr h) }, refl)
+      unread refused most at reads.Memory fewer a (record { by = inr (inr h) }, refl)
 
   -- the lines given are then k
   line_given : (m : Trace) (most : ℕ) (at : Target) (l : List ℕ) (k : List (List ℕ)) → most + 1 ≤ m.devices.most

@@ -16,7 +16,7 @@ use Rattle.ptb_command.specs.Act.{answer_instead, ask_for}
 use Rattle.ptb_command.specs.Actions.{Action, goes_on}
 use Rattle.ptb_command.specs.Act.{item_action}
 use Rattle.ptb_command.specs.Devices.{Devices, nothing_refused, refused_answers, refused_by}
-use Rattle.ptb_command.specs.Stops.{stop_of_device, Stops, RefinesPartTo, Comes}
+use Rattle.ptb_command.specs.Stops.{Stops, RefinesPartTo, Comes}
 use Rattle.ptb_command.specs.Traces.{Trace, trace, with_pending, still_pending, RefinesPart}
 use Rattle.ptb_command.proofs.Actions.{refines_part_on, stops_unrefused}
 use Rattle.ptb_command.proofs.PendingBytes.{stops_none}
@@ -80,16 +80,16 @@ module _ (said : List ℕ) (x : Tree) (prompt : List ℕ) {i o : Trace}
     -- the source fails
     pub answering_unread : {X : Type 0} (answers : Pause → ℤ → Type 0) (unread : DeviceFault → Type 0)
         (lines : Option (List (List ℕ))) (ok : X → Action (Unit {0})) (r : Result X CommandStop) (f : DeviceFault)
-        → IsErrAnd r (λ y. y ≡ stop_of_device f) → m.pending ≡ [] → most ≤ m.devices.most
+        → IsErrAnd r (λ y. y ≡ stops.Device f) → m.pending ≡ [] → most ≤ m.devices.most
         → (line : Result (Option (Bor (List ℕ))) DeviceFault) → line ≡ Err f → IfErr line IsSourceFault
         → IfErr line unread
         → Comes (refused_by answers unread lines) i (with_most most m) (item_action said x prompt) ok r
     answering_unread answers unread lines ok r f is empty fewer line fails k h =
         comes_err (refused_by answers unread lines) i (with_most most m) (item_action said x prompt) ok r
-        (stop_of_device f) is
+        (stops.Device f) is
         (stops_none (refused_by answers unread lines) i (with_most most m) (item_action said x prompt)
-        (stop_of_device f) empty
-        (stops_after (refused_by answers unread lines) (with_most most m) was (stop_of_device f)
+        (stops.Device f) empty
+        (stops_after (refused_by answers unread lines) (with_most most m) was (stops.Device f)
         (take_unread said x prompt (refused_by answers unread lines) most at f
         (subst (λ (y : Result (Option (Bor (List ℕ))) DeviceFault). IfErr y IsSourceFault) fails k) fewer comes
         (subst (λ (y : Result (Option (Bor (List ℕ))) DeviceFault). IfErr y unread) fails h))))

@@ -47,9 +47,7 @@ module _ (refused : DeviceFault → Type 0) (P : Type 0) where
   missed_none (Err stops.Over) k h = h
   missed_none (Err stops.NoInput) k h = cc
   missed_none (Err (stops.Pause z)) k h = h
-  missed_none (Err stops.Memory) k h = cc
-  missed_none (Err stops.Unread) k h = cc
-  missed_none (Err stops.Unwritten) k h = cc
+  missed_none (Err (stops.Device fault)) k h = cc
 
   -- at the exit of a `?`
   pub missed_err : {X : Type 0} (r : Result X CommandStop) (e : CommandStop) → IsErrAnd r (λ y. y ≡ e)

@@ -28,9 +28,7 @@ pending_is (b ∷ pending) (stops.Fault f) = refl
 pending_is (b ∷ pending) stops.Over = refl
 pending_is (b ∷ pending) stops.NoInput = refl
 pending_is (b ∷ pending) (stops.Pause z) = refl
-pending_is (b ∷ pending) stops.Memory = refl
-pending_is (b ∷ pending) stops.Unread = refl
-pending_is (b ∷ pending) stops.Unwritten = refl
+pending_is (b ∷ pending) (stops.Device fault) = refl
 
 pub pending_stays : (pending : List ℕ) (e : CommandStop) → is_shown_at e ≡ true → still_pending pending e ≡ pending
 pending_stays pending e h = pending_is pending e ∙ ap (λ (k : Bool). cond k pending []) h

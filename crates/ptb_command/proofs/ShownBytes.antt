@@ -18,8 +18,6 @@ use Rattle.ptb_text.specs.declared.device_fault.DeviceFault.{DeviceFault}
 use Rattle.ptb_text.specs.declared.device_fault.DeviceFault.TheVariants as screens
 use Rattle.ptb_devices.specs.Screens.{IsScreenFault}
 use Rattle.ptb_command.specs.declared.ending.Ending.TheVariants as endings
-use Rattle.ptb_command.specs.Breakage.{Breakage}
-use Rattle.ptb_command.specs.Breakage as errors
 use Rattle.ptb_command.specs.Actions.{Ends, Halts, goes_on, show}
 use Rattle.std.specs.Fmt.{signed_decimal}
 use Rattle.ptb_command.specs.Act.{is_fresh, width_of, width_limit}
@@ -27,10 +25,12 @@ use Rattle.std.specs.Int.{FitsUnsignedBits}
 use Rattle.ptb_expr.specs.declared.fault.FaultKind.TheVariants.{How}
 use Rattle.ptb_command.specs.Effects.{action_state}
 use Rattle.ptb_command.specs.Devices.{ScreenState, Devices, with_screen, bytes_alone, Shows, nothing_refused, HasBroken}
+use Rattle.ptb_command.specs.Devices.{IsInputFault}
 use Rattle.ptb_command.specs.declared.stop.CommandStop.{CommandStop}
+use Rattle.ptb_command.specs.declared.stop.CommandStop.TheVariants as stops
 use Rattle.ptb_command.specs.Traces.{Trace, trace, fresh_after, RefinesPart}
 use Rattle.ptb_command.specs.ShowResults.{IsShown}
-use Rattle.ptb_command.specs.Stops.{stop_of_device, as_stop, WantsLine, DeviceFails, Stops, RefinesPartTo, Comes}
+use Rattle.ptb_command.specs.Stops.{as_stop, WantsLine, DeviceFails, Stops, RefinesPartTo, Comes}
 use Rattle.ptb_command.proofs.Exchanges.{with_answers_nil}
 use Rattle.ptb_command.proofs.PartRefinement.{leaves_itself, leaves_to, refines_part_refl}
 
@@ -82,11 +82,12 @@ module _ (old new : ScreenState) (d : Devices) (fresh : Bool) (cells : Cells) (b
   }
 
   -- only a part was shown
-  part_shown : (n : ℕ) → Shows old new (take n bytes) → (e : Breakage)
-      → WantsLine e (Halts (Ends endings.NoInput)) (take n bytes) (show bytes) → HasBroken nothing_refused old new e
+  part_shown : (n : ℕ) → Shows old new (take n bytes) → (fault : DeviceFault)
+      → (IsInputFault fault → WantsLine (Halts (Ends endings.NoInput)) (take n bytes) (show bytes))
+      → HasBroken nothing_refused old new fault
       → DeviceFails nothing_refused (RefinesPartTo (trace (with_screen old d) fresh cells) (trace (with_screen new d)
-      fresh cells) (show bytes)) (with_screen new d) action_state (Halts (Ends endings.NoInput)) e
-  part_shown n s e wants broken = record {
+      fresh cells) (show bytes)) (with_screen new d) action_state (Halts (Ends endings.NoInput)) fault
+  part_shown n s fault wants broken = record {
     left = show bytes;
     screen = old;
     bytes = take n bytes;
@@ -111,15 +112,15 @@ module _ (old new : ScreenState) (d : Devices) (fresh : Bool) (cells : Cells) (b
       → ((IsErrOf {T = Unit {0}} (Err fault) screens.Write → ⊥) → new.failures ≡ old.failures)
       → (IsErrOf {T = Unit {0}} (Err fault) screens.Memory → IsTrue old.takes_memory)
       → Stops nothing_refused (RefinesPartTo (trace (with_screen old d) fresh cells)
-      (trace (with_screen new d) fresh cells) (show bytes)) (with_screen new d) (stop_of_device fault)
+      (trace (with_screen new d) fresh cells) (show bytes)) (with_screen new d) (stops.Device fault)
   not_shown t later borrow memory screens.Read kind failed unfailed refused = absurd kind
   not_shown t later borrow memory screens.TooLong kind failed unfailed refused = absurd kind
   not_shown t later borrow memory screens.Write kind failed unfailed refused =
-      part_shown t.0 (record { shown = t.2; same_borrow = borrow; same_memory = memory }) errors.Write tt
-      (failed refl, later)
+      part_shown t.0 (record { shown = t.2; same_borrow = borrow; same_memory = memory }) screens.Write
+      (λ unread. absurd unread) (failed refl, later)
   not_shown t later borrow memory screens.Memory kind failed unfailed refused =
-      part_shown t.0 (record { shown = t.2; same_borrow = borrow; same_memory = memory }) errors.Memory tt
-      (record { by = inl (refused refl) }, unfailed (λ e. cc))
+      part_shown t.0 (record { shown = t.2; same_borrow = borrow; same_memory = memory }) screens.Memory
+      (λ unread. absurd unread) (record { by = inl (refused refl) }, unfailed (λ e. cc))
 
 -- bytes that the screen has taken, or not
 pub put_comes : (o : Trace) (d : Devices) (fresh : Bool) (cells : Cells) (bytes : List ℕ)

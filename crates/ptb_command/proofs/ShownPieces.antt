@@ -7,18 +7,19 @@ use Rattle.std.proofs.lemmas.Result.{err_from_is_err_and}
 use Rattle.ptb_expr.specs.declared.fault.Fault.{Fault}
 use Rattle.ptb_answers.specs.Outcome.{Answers}
 use Rattle.ptb_text.specs.declared.device_fault.DeviceFault.{DeviceFault}
+use Rattle.ptb_command.specs.declared.stop.CommandStop.TheVariants as stops
 use Rattle.ptb_command.specs.Actions.{and_then, goes_on, show}
 use Rattle.ptb_command.specs.Act.{newline, fault_word, report_bytes}
 use Rattle.ptb_command.specs.Devices.{nothing_refused}
 use Rattle.ptb_command.specs.Traces.{Trace, RefinesPart}
-use Rattle.ptb_command.specs.Stops.{stop_of_device, Stops, RefinesPartTo}
+use Rattle.ptb_command.specs.Stops.{Stops, RefinesPartTo}
 use Rattle.ptb_command.specs.ShowResults.{IsShown}
 use Rattle.ptb_command.proofs.Actions.{show_adds}
 use Rattle.ptb_command.proofs.PartRefinement.{refines_part_same, refines_part_then, refines_part_under}
 use Rattle.ptb_command.proofs.Stops.{stops_under, stops_after}
 
 pub shown_err : (o n : Trace) (bytes : List ℕ) (r : Result (Unit {0}) DeviceFault) (e : DeviceFault)
-    → IsErrAnd r (λ y. y ≡ e) → Stops nothing_refused (RefinesPartTo o n (show bytes)) n.devices (stop_of_device e)
+    → IsErrAnd r (λ y. y ≡ e) → Stops nothing_refused (RefinesPartTo o n (show bytes)) n.devices (stops.Device e)
     → IsShown o n bytes r
 shown_err o n bytes r e k s =
     let q = err_from_is_err_and r k in
@@ -46,15 +47,15 @@ shown_then {o = o} {m = m} n us xs ys r e a b =
     by_result : (r : Result (Unit {0}) DeviceFault) → RefinesPart o m (show xs) (goes_on tt) → IsShown m n ys r
         → IsShown o n (xs ++ ys) r
     by_result (Ok x) a b = refines_part_then (shown_first xs ys a) b
-    by_result (Err e) a b = stops_after nothing_refused n (shown_first xs ys a) (stop_of_device e) b
+    by_result (Err e) a b = stops_after nothing_refused n (shown_first xs ys a) (stops.Device e) b
 
 -- where it isn't shown, at the exit of a `?`
 pub unshown_first : (o n : Trace) (us xs ys : List ℕ) (r : Result (Unit {0}) DeviceFault) (e : DeviceFault) → us ≡ xs
     → IsErrAnd r (λ y. y ≡ e) → IsShown o n us (Err e) → IsShown o n (xs ++ ys) r
 unshown_first o n us xs ys r e k q h =
     shown_err o n (xs ++ ys) r e q
-    (stops_after nothing_refused n (show_twice o xs ys) (stop_of_device e)
-    (stops_under nothing_refused o n (show xs) (λ u. show ys) (λ u. show_adds ys) (stop_of_device e)
+    (stops_after nothing_refused n (show_twice o xs ys) (stops.Device e)
+    (stops_under nothing_refused o n (show xs) (λ u. show ys) (λ u. show_adds ys) (stops.Device e)
     (subst (λ (s : List ℕ). IsShown o n s (Err e)) k h)))
 
 -- ---- a report

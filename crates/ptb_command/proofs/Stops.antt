@@ -11,8 +11,7 @@ use Rattle.ptb_answers.specs.Choices.{SaysOut}
 use Rattle.ptb_expr.specs.Store.{Cells}
 use Rattle.ptb_expr.specs.Value.{Work}
 use Rattle.ptb_command.specs.declared.ending.Ending.TheVariants as endings
-use Rattle.ptb_command.specs.Breakage.{Breakage}
-use Rattle.ptb_command.specs.Breakage as errors
+use Rattle.ptb_text.specs.declared.device_fault.DeviceFault.{DeviceFault}
 use Rattle.ptb_command.specs.declared.stop.CommandStop.{CommandStop}
 use Rattle.ptb_command.specs.declared.stop.CommandStop.TheVariants as stops
 use Rattle.ptb_command.specs.State.{State}
@@ -91,12 +90,10 @@ lacks_before into ends over same asks left S (Some n) w = λ h. ap into (w h) �
 pub wants_before : {A B : Type 0} (into : Outcome A State → Outcome B State) (ends : State → A) (over : State → B)
     → ((S : State) (a : Answers) → into (Done (ends S) a) ≡ Done (over S) a)
     → ((n : ℤ) (S : State) → into (Asks n S) ≡ Asks n S)
-    → (part : List ℕ) (left : State → Answers → Outcome A State) (e : Breakage) → WantsLine e ends part left
-    → WantsLine e over part (λ S a. into (left S a))
-wants_before into ends over same asks part left errors.Read w =
+    → (part : List ℕ) (left : State → Answers → Outcome A State) → WantsLine ends part left
+    → WantsLine over part (λ S a. into (left S a))
+wants_before into ends over same asks part left w =
     (w.0, λ S k. lacks_before into ends over same asks left S S.choose (w.1 S k))
-wants_before into ends over same asks part left errors.Memory w = tt
-wants_before into ends over same asks part left errors.Write w = tt
 
 -- ---- before what comes next
 
@@ -126,17 +123,17 @@ continues_before next adds shown left h = record {
 module _ {A B : Type 0} (refused : Refusal → Type 0) (R : Devices → Action A → Type 0) (Q : Devices → Action B
     → Type 0) (next : A → Action B) (adds : (x : A) → Adds (next x)) (under : (d : Devices) (g : Action A) → R d g
     → Q d (and_then g next)) (n : Devices) where
-  breaks_before : (e : Breakage) → DeviceFails refused R n action_state (Halts (Ends endings.NoInput)) e
-      → DeviceFails refused Q n action_state (Halts (Ends endings.NoInput)) e
-  breaks_before e h = record {
+  breaks_before : (fault : DeviceFault) → DeviceFails refused R n action_state (Halts (Ends endings.NoInput)) fault
+      → DeviceFails refused Q n action_state (Halts (Ends endings.NoInput)) fault
+  breaks_before fault h = record {
     left = and_then h.left next;
     screen = h.screen;
     bytes = h.bytes;
     comes = under (with_screen h.screen n) h.left h.comes;
     shows = h.shows;
     continues = continues_before next adds (λ S. S.shown ++ h.bytes) h.left h.continues;
-    line = wants_before (λ o. go_on o (on_progress next)) (Halts (Ends endings.NoInput)) (Halts (Ends endings.NoInput))
-        (λ S a. refl) (λ n S. refl) h.bytes h.left e h.line;
+    line = λ unread. wants_before (λ o. go_on o (on_progress next)) (Halts (Ends endings.NoInput))
+        (Halts (Ends endings.NoInput)) (λ S a. refl) (λ n S. refl) h.bytes h.left (h.line unread);
     broken = h.broken;
   }
 
@@ -159,16 +156,14 @@ module _ {A B : Type 0} (refused : Refusal → Type 0) (R : Devices → Action A
     pause = h.pause;
     refuses = h.refuses;
   }
-  stops_before stops.Memory h = breaks_before errors.Memory h
-  stops_before stops.Unread h = breaks_before errors.Read h
-  stops_before stops.Unwritten h = breaks_before errors.Write h
+  stops_before (stops.Device fault) h = breaks_before fault h
 
 -- what has come from one action has come from another that leads to it, even if more may be refused
 module _ {A : Type 0} (refused others : Refusal → Type 0) (more : (r : Refusal) → refused r → others r) (R Q : Devices
     → Action A → Type 0) (along : (d : Devices) (g : Action A) → R d g → Q d g) (n : Devices) where
-  breaks_along : (e : Breakage) → DeviceFails refused R n action_state (Halts (Ends endings.NoInput)) e
-      → DeviceFails others Q n action_state (Halts (Ends endings.NoInput)) e
-  breaks_along e h = record {
+  breaks_along : (fault : DeviceFault) → DeviceFails refused R n action_state (Halts (Ends endings.NoInput)) fault
+      → DeviceFails others Q n action_state (Halts (Ends endings.NoInput)) fault
+  breaks_along fault h = record {
     left = h.left;
     screen = h.screen;
     bytes = h.bytes;
@@ -176,7 +171,7 @@ module _ {A : Type 0} (refused others : Refusal → Type 0) (more : (r : Refusal
     shows = h.shows;
     continues = h.continues;
     line = h.line;
-    broken = has_broken_from refused others more h.screen h.screen n.screen refl refl e h.broken;
+    broken = has_broken_from refused others more h.screen h.screen n.screen refl refl fault h.broken;
   }
 
   pub stops_along : (e : CommandStop) → Stops refused R n e → Stops others Q n e
@@ -197,9 +192,7 @@ module _ {A : Type 0} (refused others : Refusal → Type 0) (more : (r : Refusal
     pause = h.pause;
     refuses = more (Unanswered z h.bound) h.refuses;
   }
-  stops_along stops.Memory h = breaks_along errors.Memory h
-  stops_along stops.Unread h = breaks_along errors.Read h
-  stops_along stops.Unwritten h = breaks_along errors.Write h
+  stops_along (stops.Device fault) h = breaks_along fault h
 
 -- ---- from trace to trace
 

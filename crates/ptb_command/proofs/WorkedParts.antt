@@ -13,7 +13,7 @@ use Rattle.ptb_expr.specs.Store.{Cells}
 use Rattle.ptb_expr.specs.Value.{Work}
 use Rattle.ptb_expr.specs.Evaluation.{WorkComes}
 use Rattle.ptb_command.specs.declared.ending.Ending.TheVariants as endings
-use Rattle.ptb_command.specs.Breakage as errors
+use Rattle.ptb_text.specs.declared.device_fault.DeviceFault.TheVariants as faults
 use Rattle.ptb_command.specs.State.{State}
 use Rattle.ptb_command.specs.Actions.{Ends, Progress, Goes, Halts, goes_on, attempt, or_halt, work_action}
 use Rattle.ptb_command.specs.Effects.{action_state}
@@ -85,7 +85,7 @@ module _ {A : Type 0} (f : Cells → Work A) (c e : Choices) (d : Devices) (fres
       → DeviceFails (refused_answers refused) (RefinesPartTo (with_pending pending
       (trace (with_choices c d) fresh cells))
       (trace (with_choices e d) fresh cells) (attempt f)) (with_choices e d) action_state
-      (Halts (Ends endings.NoInput)) errors.Memory
+      (Halts (Ends endings.NoInput)) faults.Memory
   breaks refused p = record {
     left = λ S. attempt (λ k. p.left) (once_shown pending S);
     screen = d.screen;
@@ -100,7 +100,7 @@ module _ {A : Type 0} (f : Cells → Work A) (c e : Choices) (d : Devices) (fres
       );
       takes = λ S a. ([], sym (ap (λ (T : State). T.lines) (attempt_state (λ k. p.left) (once_shown pending S) a)));
     };
-    line = tt;
+    line = λ unread. absurd unread;
     broken = (record { by = inr (inl (p.bound, p.refuses)) }, refl);
   }
 
@@ -119,7 +119,7 @@ module _ {A : Type 0} (f : Cells → Work A) (c e : Choices) (d : Devices) (fres
       stops_pending _ _ _ _ (stops.Pause pauses.Ended) refl (waits refused pauses.Ended tt p)
   has_paused refused (pauses.OutOfRange k) p =
       stops_pending _ _ _ _ (stops.Pause (pauses.OutOfRange k)) refl (waits refused (pauses.OutOfRange k) tt p)
-  has_paused refused pauses.Memory p = stops_dropped _ _ _ _ stops.Memory refl (breaks refused p)
+  has_paused refused pauses.Memory p = stops_dropped _ _ _ _ (stops.Device faults.Memory) refl (breaks refused p)
 
   -- a value, which the code has as v
   pub has_value : (w v : A) → v ≡ w → Reaches (f cells) c e (success w)

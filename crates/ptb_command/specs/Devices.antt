@@ -6,7 +6,8 @@
 --     Exchanges o n x          from o to n the devices exchange x, and no write fails
 --     MayFollow d rest choose  the source may have these lines left, and where none is, an answer be asked for so
 --     Refusal                  what the chooser or the line source refuses
---     HasBroken refused o n e  between o and n the device that the error e names has failed
+--     IsInputFault fault       the input could not be read, or is too long
+--     HasBroken refused o n fault      between o and n a device has failed so
 use Rattle.std.specs.Prelude.{◌≡◌, ◌≤◌, ◌+◌, ◌⊎◌, ℕ, Bool, List, [], ◌++◌, length, Option, ℤ, IsTrue}
 use Rattle.std.specs.Borrow.{GName}
 use Rattle.std.specs.Io.KnownBytes.{Appends}
@@ -18,8 +19,6 @@ use Rattle.ptb_answers.specs.Choices.{Choices, with_answers}
 use Rattle.ptb_text.specs.declared.device_fault.DeviceFault.{DeviceFault}
 use Rattle.ptb_text.specs.declared.device_fault.DeviceFault.TheVariants as faults
 use Rattle.ptb_devices.specs.declared.screen.Screen.{Ghosts}
-use Rattle.ptb_command.specs.Breakage.{Breakage}
-use Rattle.ptb_command.specs.Breakage as errors
 use Rattle.ptb_devices.specs.Sources.{NoneLeft}
 
 -- ---- what they hold
@@ -147,12 +146,15 @@ pub record HasNoMemory (refused : Refusal → Type 0) (takes_memory : Bool) : Ty
   pub by : IsTrue takes_memory ⊎ (((bound : ℤ) × refused (Unanswered pauses.Memory bound))
       ⊎ refused (Unread faults.Memory))
 
--- the input could not be read, or is too long
-pub record IsUnread (refused : Refusal → Type 0) : Type 0 where
-  pub by : refused (Unread faults.Read) ⊎ refused (Unread faults.TooLong)
+abbrev pub IsInputFault : DeviceFault → Type 0
+IsInputFault faults.Read = Unit {0}
+IsInputFault faults.TooLong = Unit {0}
+IsInputFault faults.Write = ⊥
+IsInputFault faults.Memory = ⊥
 
 -- a write fails only where the writer is named
-abbrev pub HasBroken : (Refusal → Type 0) → ScreenState → ScreenState → Breakage → Type 0
-HasBroken refused old new errors.Memory = HasNoMemory refused old.takes_memory × (new.failures ≡ old.failures)
-HasBroken refused old new errors.Read = IsUnread refused × (new.failures ≡ old.failures)
-HasBroken refused old new errors.Write = HasFailed old.failures new.failures × (old.failures ≤ new.failures)
+abbrev pub HasBroken : (Refusal → Type 0) → ScreenState → ScreenState → DeviceFault → Type 0
+HasBroken refused old new faults.Read = refused (Unread faults.Read) × (new.failures ≡ old.failures)
+HasBroken refused old new faults.TooLong = refused (Unread faults.TooLong) × (new.failures ≡ old.failures)
+HasBroken refused old new faults.Write = HasFailed old.failures new.failures × (old.failures ≤ new.failures)
+HasBroken refused old new faults.Memory = HasNoMemory refused old.takes_memory × (new.failures ≡ old.failures)

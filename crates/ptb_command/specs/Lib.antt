@@ -13,7 +13,6 @@ pub mod Literals
 pub mod Actions
 pub mod Act
 pub mod Effects
-pub mod Breakage
 pub mod Devices
 pub mod Traces
 pub mod Stops

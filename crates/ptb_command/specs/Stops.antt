@@ -3,13 +3,12 @@
 --
 -- Where a device stops it, `left` is what is left to do. A question that was refused, or a line that isn't there, is
 -- what is left next; where a device broke, the screen may have shown some of what is left.
---     stop_of_device, stop_of                  why a command stops where a device fails, and where an expression has no
---                                              value
---     as_stop result                       the same where a device fails as why a command stops
+--     stop_of                              why a command stops where an expression has no value
+--     as_stop result                       the fault of a device as why a command stops
 --     AsksNext f bound beside z            f asks a question next, which is refused for this pause
 --     Continues state shown left           what is left takes back nothing
 --     LacksLine choose ends left S         without a line it ends, or asks for an answer
---     WantsLine e ends bytes left          where the input can't be read, a line is wanted
+--     WantsLine ends bytes left            a line is wanted next
 --     AsksUnanswered, IsOutOfLines, DeviceFails                 it stops at a question, at an input line, at a device
 --     Stops refused R n e                  it stops for the reason e
 --     still_shows result                   with this result, what is gathered is shown
@@ -31,31 +30,24 @@ use Rattle.ptb_command.specs.declared.ending.Ending.TheVariants as endings
 use Rattle.ptb_text.specs.declared.device_fault.DeviceFault.{DeviceFault}
 use Rattle.ptb_text.specs.declared.device_fault.DeviceFault.TheVariants as faults
 use Rattle.ptb_devices.specs.declared.lines.LineSource as sources
-use Rattle.ptb_command.specs.Breakage.{Breakage}
-use Rattle.ptb_command.specs.Breakage as errors
 use Rattle.ptb_command.specs.declared.stop.CommandStop.{CommandStop}
 use Rattle.ptb_command.specs.declared.stop.CommandStop.TheVariants as stops
 use Rattle.ptb_command.specs.State.{State}
 use Rattle.ptb_command.specs.Actions.{Faults, Ends, Halts, Action, halt}
 use Rattle.ptb_command.specs.Effects.{action_state, Begins, TakesLines}
-use Rattle.ptb_command.specs.Devices.{ScreenState, Devices, with_screen, Shows, Refusal, Unanswered, NoLine, HasBroken}
+use Rattle.ptb_command.specs.Devices.{ScreenState, Devices, with_screen, Shows, Refusal, Unanswered, NoLine}
+use Rattle.ptb_command.specs.Devices.{HasBroken, IsInputFault}
 use Rattle.ptb_command.specs.Traces.{Trace, with_pending, still_pending, RefinesPart}
-
-abbrev pub stop_of_device : DeviceFault → CommandStop
-stop_of_device faults.Read = stops.Unread
-stop_of_device faults.TooLong = stops.Unread
-stop_of_device faults.Write = stops.Unwritten
-stop_of_device faults.Memory = stops.Memory
 
 abbrev pub as_stop : {X : Type 0} → Result X DeviceFault → Result X CommandStop
 as_stop (Ok x) = Ok x
-as_stop (Err fault) = Err (stop_of_device fault)
+as_stop (Err fault) = Err (stops.Device fault)
 
--- a chooser that has no memory left is a device that breaks
+-- a chooser that was refused memory is a device that has failed
 abbrev pub stop_of_pause : Pause → CommandStop
 stop_of_pause pauses.Ended = stops.Pause pauses.Ended
 stop_of_pause (pauses.OutOfRange k) = stops.Pause (pauses.OutOfRange k)
-stop_of_pause pauses.Memory = stops.Memory
+stop_of_pause pauses.Memory = stops.Device faults.Memory
 
 abbrev pub stop_of : NoValue → CommandStop
 stop_of (values.Fault f) = stops.Fault f
@@ -63,7 +55,7 @@ stop_of (values.Pause z) = stop_of_pause z
 
 -- ---- where it stops
 
--- lack of memory is reported as a device's error, and never as a pause
+-- lack of memory is reported as a device's fault, and never as a pause
 abbrev pub IsRefusal : Pause → Type 0
 IsRefusal pauses.Ended = Unit {0}
 IsRefusal (pauses.OutOfRange k) = Unit {0}
@@ -85,12 +77,9 @@ abbrev pub LacksLine : {A : Type 0} → Option ℤ → (State → A) → (State 
 LacksLine None ends left S = (a : Answers) → left S a ≡ Done (ends S) a
 LacksLine (Some n) ends left S = pos 1 ≤ℤ n → left S [] ≡ Asks n S
 
--- the input is read only where a line is wanted: nothing of what is left was shown then, and it lacks a line where
--- none is left
-abbrev pub WantsLine : {A : Type 0} → Breakage → (State → A) → List ℕ → (State → Answers → Outcome A State) → Type 0
-WantsLine errors.Read ends bytes left = (bytes ≡ []) × ((S : State) → S.lines ≡ [] → LacksLine S.choose ends left S)
-WantsLine errors.Memory ends bytes left = Unit {0}
-WantsLine errors.Write ends bytes left = Unit {0}
+-- nothing of what is left was shown, and it lacks a line where none is left
+abbrev pub WantsLine : {A : Type 0} → (State → A) → List ℕ → (State → Answers → Outcome A State) → Type 0
+WantsLine ends bytes left = (bytes ≡ []) × ((S : State) → S.lines ≡ [] → LacksLine S.choose ends left S)
 
 -- R d g says that it has come to g, with devices that hold d; `refused` is what holds after a refusal
 module _ {A : Type 0} (refused : Refusal → Type 0) (R : Devices → (State → Answers → Outcome A State)
@@ -113,7 +102,7 @@ module _ {A : Type 0} (refused : Refusal → Type 0) (R : Devices → (State →
     pub refuses : refused NoLine
 
   -- a device has failed, or was refused memory
-  pub record DeviceFails (state : Outcome A State → State) (ends : State → A) (e : Breakage) : Type 0 where
+  pub record DeviceFails (state : Outcome A State → State) (ends : State → A) (fault : DeviceFault) : Type 0 where
     pub left : State → Answers → Outcome A State
     -- the screen when it had come there, and the bytes that it has shown since then
     pub screen : ScreenState
@@ -121,17 +110,16 @@ module _ {A : Type 0} (refused : Refusal → Type 0) (R : Devices → (State →
     pub comes : R (with_screen screen n) left
     pub shows : Shows screen n.screen bytes
     pub continues : Continues state (λ S. S.shown ++ bytes) left
-    pub line : WantsLine e ends bytes left
-    pub broken : HasBroken refused screen n.screen e
+    -- the input is read only where a line is wanted
+    pub line : IsInputFault fault → WantsLine ends bytes left
+    pub broken : HasBroken refused screen n.screen fault
 
 abbrev pub Stops : {A : Type 0} → (Refusal → Type 0) → (Devices → Action A → Type 0) → Devices → CommandStop → Type 0
 Stops refused R n (stops.Fault f) = R n (halt (Faults f))
 Stops refused R n stops.Over = R n (halt (Ends endings.Stop))
 Stops refused R n stops.NoInput = IsOutOfLines refused R n (Halts (Ends endings.NoInput))
 Stops refused R n (stops.Pause z) = AsksUnanswered refused R n action_state z
-Stops refused R n stops.Memory = DeviceFails refused R n action_state (Halts (Ends endings.NoInput)) errors.Memory
-Stops refused R n stops.Unread = DeviceFails refused R n action_state (Halts (Ends endings.NoInput)) errors.Read
-Stops refused R n stops.Unwritten = DeviceFails refused R n action_state (Halts (Ends endings.NoInput)) errors.Write
+Stops refused R n (stops.Device fault) = DeviceFails refused R n action_state (Halts (Ends endings.NoInput)) fault
 
 -- what is gathered is shown unless a device broke, or no line was left, before which it was shown
 abbrev pub still_shows : {X : Type 0} → Result X CommandStop → Bool
@@ -140,9 +128,7 @@ still_shows (Err (stops.Fault f)) = true
 still_shows (Err stops.Over) = true
 still_shows (Err stops.NoInput) = false
 still_shows (Err (stops.Pause z)) = true
-still_shows (Err stops.Memory) = false
-still_shows (Err stops.Unread) = false
-still_shows (Err stops.Unwritten) = false
+still_shows (Err (stops.Device fault)) = false
 
 -- ---- lines that the source didn't give
 
@@ -161,8 +147,9 @@ UnlessMissed refused P MemoryMiss = P ⊎ refused faults.Memory
 
 abbrev pub stop_miss : CommandStop → Miss
 stop_miss stops.NoInput = LineMiss
-stop_miss stops.Unread = LineMiss
-stop_miss stops.Memory = MemoryMiss
+stop_miss (stops.Device faults.Read) = LineMiss
+stop_miss (stops.Device faults.TooLong) = LineMiss
+stop_miss (stops.Device faults.Memory) = MemoryMiss
 stop_miss _ = NoMiss
 
 abbrev pub miss_of : {X : Type 0} → Result X CommandStop → Miss

@@ -40,9 +40,7 @@ still_pending (b ∷ pending) (stops.Fault f) = b ∷ pending
 still_pending (b ∷ pending) stops.Over = b ∷ pending
 still_pending (b ∷ pending) stops.NoInput = []
 still_pending (b ∷ pending) (stops.Pause z) = b ∷ pending
-still_pending (b ∷ pending) stops.Memory = []
-still_pending (b ∷ pending) stops.Unread = []
-still_pending (b ∷ pending) stops.Unwritten = []
+still_pending (b ∷ pending) (stops.Device fault) = []
 
 -- whatever was shown before, these bytes make a transcript that was fresh or not into one that is or not
 abbrev pub Freshens : Bool → List ℕ → Bool → Type 0

@@ -19,12 +19,8 @@ pub enum CommandStop {
     NoInput,
     /// A question of it has no answer, though there is memory for one.
     Pause(Pause),
-    /// A device was refused memory.
-    Memory,
-    /// The input could not be read, or is too long.
-    Unread,
-    /// The screen could not be written.
-    Unwritten,
+    /// A device has failed, or a device or the chooser was refused memory.
+    Device(DeviceFault),
 }
 
 /// A fault that is marked at a place.
@@ -38,28 +34,16 @@ pub(crate) fn fault(kind: FaultKind, mark: usize) -> CommandStop
 pub(crate) fn still_shows<X: Copy>(done: Result<X, CommandStop>) -> bool
     ensures { result ≡ still_shows done }
 {
-    !matches!(
-        done,
-        Err(
-            CommandStop::NoInput
-                | CommandStop::Memory
-                | CommandStop::Unread
-                | CommandStop::Unwritten
-        )
-    )
+    !matches!(done, Err(CommandStop::NoInput | CommandStop::Device(_)))
 }
 
 impl From<DeviceFault> for CommandStop {
-    ghost use Rattle.ptb_command.specs.Stops.{stop_of_device};
+    ghost use Rattle.ptb_command.specs.declared.stop.CommandStop.TheVariants.{Device};
 
-    ghost from_gives = { λ fault r. r ≡ stop_of_device fault };
+    ghost from_gives = { λ fault r. r ≡ Device fault };
 
     fn from(fault: DeviceFault) -> CommandStop {
-        match fault {
-            DeviceFault::Read | DeviceFault::TooLong => CommandStop::Unread,
-            DeviceFault::Write => CommandStop::Unwritten,
-            DeviceFault::Memory => CommandStop::Memory,
-        }
+        CommandStop::Device(fault)
     }
 }
 
@@ -71,7 +55,7 @@ impl From<ptb_expr::Stop> for CommandStop {
     fn from(stop: ptb_expr::Stop) -> CommandStop {
         match stop {
             ptb_expr::Stop::Fault(fault) => CommandStop::Fault(fault),
-            ptb_expr::Stop::Pause(Pause::Memory) => CommandStop::Memory,
+            ptb_expr::Stop::Pause(Pause::Memory) => CommandStop::Device(DeviceFault::Memory),
             ptb_expr::Stop::Pause(pause) => CommandStop::Pause(pause),
         }
     }

@@ -6,6 +6,8 @@ use Rattle.std.proofs.Common.{subst, ◌∙◌, arith, append_assoc, append-nil,
 use Rattle.std.proofs.Common.{length-append, length-drop}
 use Rattle.std.proofs.Math.Path.{fun_ext}
 use Rattle.ptb_text.specs.Statements.{StoredProgram}
+use Rattle.ptb_text.specs.declared.device_fault.DeviceFault.{DeviceFault}
+use Rattle.ptb_text.specs.declared.device_fault.DeviceFault.TheVariants as fails
 use Rattle.ptb_answers.specs.declared.pause.Pause.{Pause}
 use Rattle.ptb_answers.specs.declared.pause.Pause.TheVariants as pauses
 use Rattle.ptb_devices.specs.Sources.{LineList, Gives}
@@ -23,7 +25,8 @@ use Rattle.ptb_command.specs.Devices.{ScreenState, Devices, devices, Refusal, no
 use Rattle.ptb_command.specs.Configuration.{Configuration}
 use Rattle.ptb_command.specs.Effects.{act_state}
 use Rattle.ptb_command.specs.Representation.{Represents}
-use Rattle.ptb_command.specs.Stops.{AsksUnanswered, IsOutOfLines}
+use Rattle.ptb_command.specs.Stops.{AsksUnanswered, DeviceFails, IsOutOfLines}
+use Rattle.ptb_machine.specs.RunFaults.{fault_of_device}
 use Rattle.ptb_machine.specs.Steps.{PlainTurns, DoesStep}
 use Rattle.ptb_machine.specs.TurnResults.{StepsTo, goes, ends, StepComes}
 use Rattle.ptb_answers.specs.declared.rules.Rules.{Rules}
@@ -303,19 +306,24 @@ module _ (laws : RunLaws) (p : StoredProgram) (input : List (List ℕ)) (rules :
         (devices d (text_state t) few rules.choose given) r) is (steps u.state rest
         (record { represents = u.represents; lines = u.left_is ∙ l; follow = λ none. (follows none, u.choose) }))
 
-    never_unread : r ≡ Err faults.Read → ⊥
-    never_unread is = let w : Fault faults.Read = faulted faults.Read is in elim w.broken.0.by [ inl x ↦ x | inr x ↦ x ]
-
-    never_unwritten : r ≡ Err faults.Write → ⊥
-    never_unwritten is =
-        let w : Fault faults.Write = faulted faults.Write is in
+    by_device : (device : DeviceFault)
+        → DeviceFails (refused_by refuses (λ _. ⊥) (Some rest))
+        (StepsTo p.lines new (devices c (text_state s) most rules.choose []) u.state rest (turn p rules.limit u.state))
+        (devices d (text_state t) few rules.choose given) act_state (Over endings.NoInput) device
+        → fault_of_device device ≡ faults.Memory
+    by_device fails.Read w = absurd w.broken.0
+    by_device fails.TooLong w = absurd w.broken.0
+    by_device fails.Write w =
         let none : w.screen.failures ≡ 0 = w.comes.exchanges.unfailed in
         elim w.broken.0 [ inl x ↦ absurd (omega (arith, none, x)) | inr x ↦ absurd (omega (arith, none, x)) ]
+    by_device fails.Memory w = refl
 
     pub only_memory : (r ≡ Err faults.Spent → ⊥) → (f : RunFault) → r ≡ Err f → f ≡ faults.Memory
     only_memory unspent faults.Memory is = refl
-    only_memory unspent faults.Read is = absurd (never_unread is)
-    only_memory unspent faults.Write is = absurd (never_unwritten is)
+    only_memory unspent faults.Read is =
+        let w : Fault faults.Read = faulted faults.Read is in w.1 ∙ by_device w.0 w.2
+    only_memory unspent faults.Write is =
+        let w : Fault faults.Write = faulted faults.Write is in w.1 ∙ by_device w.0 w.2
     only_memory unspent faults.Spent is = absurd (unspent is)
 
 -- ---- a chooser that took the same answers

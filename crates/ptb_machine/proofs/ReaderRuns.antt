@@ -32,7 +32,7 @@ use Rattle.ptb_machine.specs.MemoryNotes.{noted, noted_result}
 use Rattle.ptb_machine.specs.PlainRuns.{GoesBy, HasLine, IsUnreadable, PlaysWith, ReadsFor}
 use Rattle.ptb_machine.specs.PlainRuns.{ReadsLines, WantsMemory, input_limit, lines_taken}
 use Rattle.ptb_machine.specs.PlainRuns.{lines_wanted, without_choose}
-use Rattle.ptb_machine.specs.CommandResults.{fault_of_device}
+use Rattle.ptb_machine.specs.RunFaults.{fault_of_device}
 use Rattle.ptb_machine.specs.Streams.{Reads, Writes, reads_of, writes_of}
 use Rattle.ptb_machine.proofs.WriterRuns.{IsRunBetween, IsUnreadBetween, led_line, led_run, led_run_dry}
 use Rattle.ptb_machine.proofs.WriterRuns.{led_run_takes, run_between, state_of, unread_between}

@@ -11,7 +11,7 @@ use Rattle.ptb_command.specs.declared.ending.Ending.{Ending}
 use Rattle.ptb_machine.specs.declared.fault.RunFault.{RunFault}
 use Rattle.ptb_machine.specs.declared.fault.RunFault.TheVariants as faults
 use Rattle.ptb_text.specs.declared.device_fault.DeviceFault.{DeviceFault}
-use Rattle.ptb_text.specs.declared.device_fault.DeviceFault.TheVariants as screens
+use Rattle.ptb_text.specs.declared.device_fault.DeviceFault.TheVariants as devices
 use Rattle.ptb_command.specs.declared.stop.CommandStop.{CommandStop}
 use Rattle.ptb_command.specs.declared.stop.CommandStop.TheVariants as stops
 use Rattle.ptb_command.specs.Act.{report_bytes}
@@ -21,6 +21,7 @@ use Rattle.ptb_command.specs.Stops.{UnlessMissed, miss_of}
 use Rattle.ptb_command.proofs.PublicLemmas.{miss_unmissed}
 use Rattle.ptb_machine.specs.CommandResults.{reported, result_of_stop, IsResultOf}
 use Rattle.ptb_machine.specs.RunDevices.{RunDevices, run_devices, lent}
+use Rattle.ptb_machine.specs.RunFaults.{fault_of_device}
 use Rattle.ptb_machine.specs.Steps.{step_miss}
 
 -- nothing is shown where it was done, or stopped by s
@@ -43,9 +44,7 @@ result_stopped o number text done s r other is e =
     silent stops.Over other is = record { is = is; same = refl }
     silent stops.NoInput other is = record { is = is; same = refl }
     silent (stops.Pause z) other is = record { is = is; same = refl }
-    silent stops.Memory other is = record { is = is; same = refl }
-    silent stops.Unread other is = record { is = is; same = refl }
-    silent stops.Unwritten other is = record { is = is; same = refl }
+    silent (stops.Device fault) other is = record { is = is; same = refl }
 
 -- a fault that was reported, or not
 pub result_reported : (o n : Trace) (number : ℕ) (text : List ℕ) (f : Fault) (done : Result (Unit {0}) CommandStop)
@@ -81,12 +80,15 @@ is_spent (Err faults.Read) = false
 is_spent (Err faults.Write) = false
 is_spent (Err faults.Spent) = true
 
+device_unspent : (fault : DeviceFault) → is_spent (Err (fault_of_device fault)) ≡ false
+device_unspent devices.Read = refl
+device_unspent devices.TooLong = refl
+device_unspent devices.Memory = refl
+device_unspent devices.Write = refl
+
 reported_unspent : (kind : FaultKind) (shown : Result (Unit {0}) DeviceFault) → is_spent (reported kind shown) ≡ false
 reported_unspent kind (Ok x) = refl
-reported_unspent kind (Err screens.Read) = refl
-reported_unspent kind (Err screens.TooLong) = refl
-reported_unspent kind (Err screens.Memory) = refl
-reported_unspent kind (Err screens.Write) = refl
+reported_unspent kind (Err fault) = device_unspent fault
 
 -- what the result of a command says of both
 result_facts : (o n : Trace) (number : ℕ) (text : List ℕ) (done : Result (Unit {0}) CommandStop)
@@ -100,9 +102,8 @@ result_facts o n number text (Err stops.NoInput) r is = (ap is_over is.is, ap is
 result_facts o n number text (Err (stops.Pause pauses.Ended)) r is = (ap is_over is.is, ap is_spent is.is)
 result_facts o n number text (Err (stops.Pause (pauses.OutOfRange k))) r is = (ap is_over is.is, ap is_spent is.is)
 result_facts o n number text (Err (stops.Pause pauses.Memory)) r is = (ap is_over is.is, ap is_spent is.is)
-result_facts o n number text (Err stops.Memory) r is = (ap is_over is.is, ap is_spent is.is)
-result_facts o n number text (Err stops.Unread) r is = (ap is_over is.is, ap is_spent is.is)
-result_facts o n number text (Err stops.Unwritten) r is = (ap is_over is.is, ap is_spent is.is)
+result_facts o n number text (Err (stops.Device fault)) r is =
+    (ap is_over is.is, ap is_spent is.is ∙ device_unspent fault)
 
 -- it continues where the command was done
 pub result_goes : (o n : Trace) (number : ℕ) (text : List ℕ) (done : Result (Unit {0}) CommandStop)
@@ -145,9 +146,10 @@ result_missed refused P o n number text done r is h = by_result done is h
     by_result (Err (stops.Pause pauses.Ended)) is h = is_so _ is.is h
     by_result (Err (stops.Pause (pauses.OutOfRange k))) is h = is_so _ is.is h
     by_result (Err (stops.Pause pauses.Memory)) is h = is_so _ is.is (inl h)
-    by_result (Err stops.Memory) is h = is_so _ is.is h
-    by_result (Err stops.Unread) is h = is_so _ is.is h
-    by_result (Err stops.Unwritten) is h = is_so _ is.is h
+    by_result (Err (stops.Device devices.Read)) is h = is_so _ is.is h
+    by_result (Err (stops.Device devices.TooLong)) is h = is_so _ is.is h
+    by_result (Err (stops.Device devices.Write)) is h = is_so _ is.is h
+    by_result (Err (stops.Device devices.Memory)) is h = is_so _ is.is h
 
 -- ---- devices
 

@@ -7,6 +7,8 @@ use Rattle.std.proofs.Math.Path.{fun_ext}
 use Rattle.std.proofs.lemmas.Bool.{false≢true}
 use Rattle.std.proofs.lemmas.List.{append_cancel_left}
 use Rattle.ptb_text.specs.Statements.{StoredProgram}
+use Rattle.ptb_text.specs.declared.device_fault.DeviceFault.{DeviceFault}
+use Rattle.ptb_text.specs.declared.device_fault.DeviceFault.TheVariants as devices
 use Rattle.ptb_answers.specs.declared.pause.Pause.{Pause}
 use Rattle.ptb_answers.specs.declared.pause.Pause.TheVariants as pauses
 use Rattle.ptb_answers.specs.Outcome.{Answers, Outcome, Done, Asks, Out, go_on, map_outcome}
@@ -14,8 +16,6 @@ use Rattle.ptb_command.specs.declared.ending.Ending.{Ending}
 use Rattle.ptb_command.specs.declared.ending.Ending.TheVariants as endings
 use Rattle.ptb_machine.specs.declared.fault.RunFault.{RunFault}
 use Rattle.ptb_machine.specs.declared.fault.RunFault.TheVariants as faults
-use Rattle.ptb_command.specs.Breakage.{Breakage}
-use Rattle.ptb_command.specs.Breakage as errors
 use Rattle.ptb_command.specs.State.{Place, State, first_state}
 use Rattle.ptb_command.specs.Act.{StepResult, Next, Over}
 use Rattle.ptb_machine.specs.Play.{FinalState, last_in, after_turn, turn, all_turns, last_state}
@@ -25,12 +25,14 @@ use Rattle.ptb_command.specs.Devices.{ScreenState, Devices, with_screen, Shows, 
 use Rattle.ptb_command.specs.Devices.{no_exchange, both_exchanges, Exchanges, MayFollow, Refusal, nothing_refused}
 use Rattle.ptb_command.specs.Traces.{Leaves}
 use Rattle.ptb_command.specs.Stops.{AsksNext, Continues, LacksLine, AsksUnanswered, IsOutOfLines, DeviceFails}
+use Rattle.ptb_command.specs.Stops.{WantsLine}
 use Rattle.ptb_answers.specs.declared.rules.Rules.{Rules}
 use Rattle.ptb_command.specs.Configuration.{Configuration}
 use Rattle.ptb_command.specs.Locations.{PlacesAre}
 use Rattle.ptb_command.specs.Representation.{Represents}
 use Rattle.ptb_machine.specs.PlayResults.{played_bytes, Plays, refused_by_pause, IsFinished}
 use Rattle.ptb_machine.specs.PlayResults.{IsUnanswered, IsUnfinished, LacksInput, RunComes}
+use Rattle.ptb_machine.specs.RunFaults.{fault_of_device}
 use Rattle.ptb_machine.specs.Runs.{Runs, StopsAt}
 use Rattle.ptb_machine.specs.Steps.{IsStateBefore, DoesStep, PlainTurns}
 use Rattle.ptb_machine.specs.TurnResults.{StepsTo, goes, ends, StepComes}
@@ -356,57 +358,63 @@ module _ (refused : Refusal → Type 0) (p : StoredProgram) (rules : Rules) (m n
     }
 
     -- where the input can't be read a line was wanted
-    module _ (w : DeviceFails refused LastStep e act_state (Over endings.NoInput) errors.Read) where
-      abbrev run_so : RunsTo p rules n o whole rest (onto d (with_screen w.screen e)) (then_turns p rules.limit w.left)
-      run_so = last (with_screen w.screen e) w.left w.comes
+    module _ (fault : DeviceFault) (w : DeviceFails refused LastStep e act_state (Over endings.NoInput) fault)
+        (line : WantsLine (Over endings.NoInput) w.bytes w.left) (unfailed : e.screen.failures ≡ w.screen.failures)
+      where
+        abbrev run_so : RunsTo p rules n o whole rest (onto d (with_screen w.screen e)) (then_turns p rules.limit w.left)
+        run_so = last (with_screen w.screen e) w.left w.comes
 
-      unread : LastStep e w.left
-      unread = up_to w.screen w.left (subst (λ (bytes : List ℕ). Shows w.screen e.screen bytes) w.line.0 w.shows)
-          w.broken.1 w.comes
+        unread : LastStep e w.left
+        unread = up_to w.screen w.left (subst (λ (bytes : List ℕ). Shows w.screen e.screen bytes) line.0 w.shows)
+            unfailed w.comes
 
-      same_state : (last e w.left unread).leads.state ≡ run_so.leads.state
-      unfolding last run_then unread up_to
-      same_state = refl
+        same_state : (last e w.left unread).leads.state ≡ run_so.leads.state
+        unfolding last run_then unread up_to
+        same_state = refl
 
-      shown_so : run_so.leads.state.shown ≡ run_so.exchange.bytes ++ w.bytes
-      shown_so = run_so.leads.shown
-          ∙ sym (ap (λ l. run_so.exchange.bytes ++ l) w.line.0 ∙ append-nil run_so.exchange.bytes)
+        shown_so : run_so.leads.state.shown ≡ run_so.exchange.bytes ++ w.bytes
+        shown_so = run_so.leads.shown
+            ∙ sym (ap (λ l. run_so.exchange.bytes ++ l) line.0 ∙ append-nil run_so.exchange.bytes)
 
-      lacks : (choose : Option ℤ) → IfSome choose (λ n. pos 1 ≤ℤ n)
-          → LacksLine choose (Over endings.NoInput) w.left run_so.leads.state
-          → LacksInput refused p rules whole o (onto d e) choose (run_so.exchange.bytes ++ w.bytes)
-          (playing (then_turns p rules.limit w.left) run_so.leads.state)
-      lacks None high dry = ends_dry w.left unread
-          (λ a. subst (λ (T : State). w.left T a ≡ Done (Over endings.NoInput T) a) (sym same_state) (dry a))
-      lacks (Some k) high asks = ap (λ u. as_played (go_on u (after_turn (all_turns p rules.limit)))) (asks high)
-          ∙ ap (λ (s : List ℕ). Asks k s) shown_so
+        lacks : (choose : Option ℤ) → IfSome choose (λ n. pos 1 ≤ℤ n)
+            → LacksLine choose (Over endings.NoInput) w.left run_so.leads.state
+            → LacksInput refused p rules whole o (onto d e) choose (run_so.exchange.bytes ++ w.bytes)
+            (playing (then_turns p rules.limit w.left) run_so.leads.state)
+        lacks None high dry = ends_dry w.left unread
+            (λ a. subst (λ (T : State). w.left T a ≡ Done (Over endings.NoInput T) a) (sym same_state) (dry a))
+        lacks (Some k) high asks = ap (λ u. as_played (go_on u (after_turn (all_turns p rules.limit)))) (asks high)
+            ∙ ap (λ (s : List ℕ). Asks k s) shown_so
 
-      unread_dry : rest ≡ []
-          → LacksInput refused p rules whole o (onto d e) rules.choose (run_so.exchange.bytes ++ w.bytes)
-          (playing (then_turns p rules.limit w.left) run_so.leads.state)
-      unread_dry none =
-          subst (λ (choose : Option ℤ). LacksInput refused p rules whole o (onto d e) choose
-          (run_so.exchange.bytes ++ w.bytes) (playing (then_turns p rules.limit w.left) run_so.leads.state))
-          run_so.leads.choose
-          (lacks run_so.leads.state.choose (subst (λ (choose : Option ℤ). IfSome choose (λ n. pos 1 ≤ℤ n))
-          (sym run_so.leads.choose) rules.in_range)
-          (w.line.1 run_so.leads.state (run_so.leads.lines ∙ none)))
+        unread_dry : rest ≡ []
+            → LacksInput refused p rules whole o (onto d e) rules.choose (run_so.exchange.bytes ++ w.bytes)
+            (playing (then_turns p rules.limit w.left) run_so.leads.state)
+        unread_dry none =
+            subst (λ (choose : Option ℤ). LacksInput refused p rules whole o (onto d e) choose
+            (run_so.exchange.bytes ++ w.bytes) (playing (then_turns p rules.limit w.left) run_so.leads.state))
+            run_so.leads.choose
+            (lacks run_so.leads.state.choose (subst (λ (choose : Option ℤ). IfSome choose (λ n. pos 1 ≤ℤ n))
+            (sym run_so.leads.choose) rules.in_range)
+            (line.1 run_so.leads.state (run_so.leads.lines ∙ none)))
 
-    dry_by : (error : Breakage) (w : DeviceFails refused LastStep e act_state (Over endings.NoInput) error)
-        → error ≡ errors.Read → rest ≡ []
+    dry_by : (device : DeviceFault) (w : DeviceFails refused LastStep e act_state (Over endings.NoInput) device)
+        → fault_of_device device ≡ faults.Read → rest ≡ []
         → LacksInput refused p rules whole o (onto d e) rules.choose
         ((last (with_screen w.screen e) w.left w.comes).exchange.bytes ++ w.bytes)
         (playing (then_turns p rules.limit w.left) (last (with_screen w.screen e) w.left w.comes).leads.state)
-    dry_by errors.Read w is none = unread_dry w none
-    dry_by errors.Memory w is none = absurd (let clash : errors.Memory ≡ errors.Read = is in cc)
-    dry_by errors.Write w is none = absurd (let clash : errors.Write ≡ errors.Read = is in cc)
+    dry_by devices.Read w is none = unread_dry devices.Read w (w.line tt) w.broken.1 none
+    dry_by devices.TooLong w is none = unread_dry devices.TooLong w (w.line tt) w.broken.1 none
+    dry_by devices.Write w is none = absurd (let clash : faults.Write ≡ faults.Read = is in cc)
+    dry_by devices.Memory w is none = absurd (let clash : faults.Memory ≡ faults.Read = is in cc)
 
-    broken : (error : Breakage) → DeviceFails refused LastStep e act_state (Over endings.NoInput) error
-        → IsUnfinished refused p rules whole o (onto d e) error
-    broken error w =
+    broken : (fault : RunFault) (device : DeviceFault) → fault ≡ fault_of_device device
+        → DeviceFails refused LastStep e act_state (Over endings.NoInput) device
+        → IsUnfinished refused p rules whole o (onto d e) fault
+    broken fault device is w =
         let x = last (with_screen w.screen e) w.left w.comes in
         let shows = shows_then o.screen w.screen e.screen x.exchange.bytes w.bytes x.exchanges.shows w.shows in
         record {
+          device = device;
+          is = is;
           exchange = record x.exchange { bytes = x.exchange.bytes ++ w.bytes };
           left = playing (then_turns p rules.limit w.left) x.leads.state;
           plays = record {
@@ -422,7 +430,7 @@ module _ (refused : Refusal → Type 0) (p : StoredProgram) (rules : Rules) (m n
                 (then_turns p rules.limit w.left) x).leaves;
           };
           broken = has_broken_from refused refused (λ r y. y) o.screen w.screen e.screen x.exchanges.unfailed
-              x.exchanges.shows.same_memory error w.broken;
+              x.exchanges.shows.same_memory device w.broken;
           continues = record {
             begins = λ a.
                 subst (Begins (x.exchange.bytes ++ w.bytes))
@@ -438,7 +446,7 @@ module _ (refused : Refusal → Type 0) (p : StoredProgram) (rules : Rules) (m n
                       ∙ ap (λ u. more.0 ++ (last_state u).lines) (sym (leaves_at x.leads.leaves a))),
                 );
           };
-          dry = λ is all. dry_by error w is
+          dry = λ unread all. dry_by device w (sym is ∙ unread)
               (append_cancel_left (d.given ++ e.given) rest [] (all ∙ sym (append-nil (d.given ++ e.given))));
         }
 
@@ -456,9 +464,9 @@ module _ (refused : Refusal → Type 0) (p : StoredProgram) (rules : Rules) (m n
 
     comes_broken : (fault : RunFault) → (fault ≡ faults.Spent → ⊥) → StepComes refused LastStep e (Err fault)
         → RunComes refused p rules rest o (onto d e) (Err fault)
-    comes_broken faults.Memory fresh s = inr (broken errors.Memory s)
-    comes_broken faults.Read fresh s = broken errors.Read s
-    comes_broken faults.Write fresh s = broken errors.Write s
+    comes_broken faults.Memory fresh s = inr (broken faults.Memory s.0 s.1 s.2)
+    comes_broken faults.Read fresh s = broken faults.Read s.0 s.1 s.2
+    comes_broken faults.Write fresh s = broken faults.Write s.0 s.1 s.2
     comes_broken faults.Spent fresh s = absurd (fresh refl)
 
   -- it is over

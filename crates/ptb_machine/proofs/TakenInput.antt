@@ -26,7 +26,7 @@ use Rattle.ptb_devices.proofs.PublicLemmas.{input_lines-cut}
 use Rattle.ptb_text.specs.Statements.{StoredProgram}
 use Rattle.ptb_answers.specs.declared.pause.Pause.{Pause}
 use Rattle.ptb_answers.specs.Outcome.{Answers}
-use Rattle.ptb_command.specs.Devices.{Devices, refused_by}
+use Rattle.ptb_command.specs.Devices.{Devices, ScreenState, HasBroken, refused_by}
 use Rattle.ptb_machine.specs.declared.fault.RunFault.TheVariants as runs
 use Rattle.ptb_answers.specs.declared.rules.Rules.{Rules}
 use Rattle.ptb_command.specs.Stops.{NotMissed, UnlessMissed}
@@ -38,7 +38,7 @@ use Rattle.ptb_machine.specs.declared.fault.RunFault.{RunFault}
 use Rattle.ptb_machine.specs.Play.{plain}
 use Rattle.ptb_machine.specs.MemoryNotes.{noted_result}
 use Rattle.ptb_machine.specs.PlainRuns.{IsUnreadable, ShowsRun, ShowsQuestion}
-use Rattle.ptb_machine.specs.CommandResults.{fault_of_device}
+use Rattle.ptb_machine.specs.RunFaults.{fault_of_device}
 use Rattle.ptb_machine.specs.PlainRuns.{lines_come, lines_taken, ending_wanted, lines_wanted}
 use Rattle.ptb_machine.specs.PlainRuns.{ReadsFor}
 use Rattle.ptb_machine.proofs.WriterRuns.{IsRunBetween, IsUnreadBetween}
@@ -517,16 +517,20 @@ noted_within noticed rules r wanted most within given all k fits part over =
 -- where the source has come to no fault, the run doesn't say that a line could not be read
 module _ (p : StoredProgram) (rules : Rules) (refuses : Pause → ℤ → Type 0) (o n : Devices) (end : InputEnd)
     (left : Option (List (List ℕ))) where
+  unread_at : fault_at end ≡ None → (a b : ScreenState) (device : DeviceFault) → runs.Read ≡ fault_of_device device
+      → HasBroken (refused_by refuses (Refuses end) left) a b device → ⊥
+  unread_at none a b reads.Read is h = faulty end reads.Read h.0 none
+  unread_at none a b reads.TooLong is h = faulty end reads.TooLong h.0 none
+  unread_at none a b reads.Write is h = absurd cc
+  unread_at none a b reads.Memory is h = absurd cc
+
   pub never_unread : fault_at end ≡ None → (ended : Result Ending RunFault)
       → RunComes (refused_by refuses (Refuses end) left) p rules [] o n ended → IsErrOf ended runs.Read → ⊥
   never_unread none (Ok e) h is = absurd cc
   never_unread none (Err runs.Memory) h is = absurd cc
   never_unread none (Err runs.Write) h is = absurd cc
   never_unread none (Err runs.Spent) h is = absurd h
-  never_unread none (Err runs.Read) h is = elim (h.broken.0.by) [
-    | inl q ↦ faulty end reads.Read q none
-    | inr q ↦ faulty end reads.TooLong q none
-  ]
+  never_unread none (Err runs.Read) h is = unread_at none o.screen n.screen h.device h.is h.broken
 
 pub where_ok : (r : Result Ending RunFault) (Q : Type 0) → Q → OnOk r Q
 where_ok (Ok e) Q q = q

@@ -26,12 +26,12 @@ use Rattle.ptb_command.specs.Effects.{Begins}
 use Rattle.ptb_text.specs.declared.device_fault.DeviceFault.{DeviceFault}
 use Rattle.ptb_text.specs.declared.device_fault.DeviceFault.TheVariants as reads
 use Rattle.ptb_devices.specs.Sources.{NoneLeft}
-use Rattle.ptb_command.specs.Breakage.{Breakage}
-use Rattle.ptb_command.specs.Breakage as errors
 use Rattle.ptb_command.specs.Devices.{ScreenState, Devices, devices, with_failures, Exchange, Refusal, refused_by}
+use Rattle.ptb_command.specs.Devices.{HasBroken, HasNoMemory}
 use Rattle.ptb_command.specs.Stops.{UnlessMissed}
 use Rattle.ptb_machine.specs.PlayResults.{played_bytes, Plays, IsFinished, IsUnanswered}
 use Rattle.ptb_machine.specs.PlayResults.{IsUnfinished, LacksInput, RunComes}
+use Rattle.ptb_machine.specs.RunFaults.{fault_of_device}
 use Rattle.ptb_machine.specs.Runs.{run_miss, Runs, StopsAt, IsLineOf, choosing}
 use Rattle.ptb_machine.specs.MemoryNotes.{ended_for, noted, noted_result}
 use Rattle.ptb_machine.specs.PlainRuns.{ShowsRun, ShowsQuestion, lines_taken, IsLed, GoesBy, without_choose}
@@ -214,8 +214,30 @@ module _ (p : StoredProgram) (rules : Rules) (a : Answers) (refuses : Pause → 
       is_ok endings.BadAnswer h.plays
       (shows_run h.exchange h.left endings.BadAnswer _ h.plays (ap h.left next.1 ∙ h.question.outside next.0) refl)
 
+  -- what has happened to the devices, by the fault of the run
+  failed_by : (a b : ScreenState) (device : DeviceFault) → runs.Write ≡ fault_of_device device
+      → HasBroken refused a b device → HasFailed a.failures b.failures
+  failed_by a b reads.Read is h = absurd cc
+  failed_by a b reads.TooLong is h = absurd cc
+  failed_by a b reads.Write is h = h.0
+  failed_by a b reads.Memory is h = absurd cc
+
+  unfailed_by : (a b : ScreenState) (device : DeviceFault) → runs.Read ≡ fault_of_device device
+      → HasBroken refused a b device → b.failures ≡ a.failures
+  unfailed_by a b reads.Read is h = h.1
+  unfailed_by a b reads.TooLong is h = h.1
+  unfailed_by a b reads.Write is h = absurd cc
+  unfailed_by a b reads.Memory is h = absurd cc
+
+  no_memory_by : (a b : ScreenState) (device : DeviceFault) → runs.Memory ≡ fault_of_device device
+      → HasBroken refused a b device → HasNoMemory refused a.takes_memory
+  no_memory_by a b reads.Read is h = absurd cc
+  no_memory_by a b reads.TooLong is h = absurd cc
+  no_memory_by a b reads.Write is h = absurd cc
+  no_memory_by a b reads.Memory is h = h.0
+
   -- where a device fails, what was shown is a beginning
-  begun : {e : Breakage} → IsUnfinished refused p rules lines before later e
+  begun : {fault : RunFault} → IsUnfinished refused p rules lines before later fault
       → TakesSome old.shown new.shown (plain p lines rules a).0
   begun h = part_shown old.failures h.exchange h.left h.plays h.continues.begins
 
@@ -225,7 +247,7 @@ module _ (p : StoredProgram) (rules : Rules) (a : Answers) (refuses : Pause → 
     same_borrow = h.plays.exchanges.shows.same_borrow;
     ok = tt;
     beginning = begun h;
-    failed = λ _. h.broken.0;
+    failed = λ _. failed_by old new h.device h.is h.broken;
     memory = λ f. cc;
     unfailed = λ f. absurd (f refl);
     unspent = λ f. cc;
@@ -239,7 +261,7 @@ module _ (p : StoredProgram) (rules : Rules) (a : Answers) (refuses : Pause → 
     beginning = begun h;
     failed = λ f. cc;
     memory = λ f. cc;
-    unfailed = λ f. h.broken.1;
+    unfailed = λ f. unfailed_by old new h.device h.is h.broken;
     unspent = λ f. cc;
   }
 
@@ -250,7 +272,7 @@ module _ (p : StoredProgram) (rules : Rules) (a : Answers) (refuses : Pause → 
   out_of_memory e no_memory h =
       elim h [
         | inl same ↦ same
-        | inr u ↦ elim (u.broken.0.by) [
+        | inr u ↦ elim ((no_memory_by old new u.device u.is u.broken).by) [
           | inl t ↦ absurd (let both : true ≡ false = sym t ∙ e in cc)
           | inr r ↦ elim r [ inl q ↦ absurd q.1 | inr q ↦ absurd (no_memory q) ]
         ]
@@ -306,9 +328,9 @@ module _ (p : StoredProgram) (rules : Rules) (a : Answers) (refuses : Pause → 
       let taken = h.continues.more_lines following.rest in
       fits h.exchange following.rest taken.0 following.whole taken.1
 
-  fits_unfinished : (e : Breakage) → IsUnfinished refused p rules lines before later e
+  fits_unfinished : (fault : RunFault) → IsUnfinished refused p rules lines before later fault
       → length given ≤ lines_taken p lines rules a
-  fits_unfinished e h =
+  fits_unfinished fault h =
       let following = left_by old.failures h.exchange h.left h.plays in
       let taken = h.continues.more_lines following.rest in
       fits h.exchange following.rest taken.0 following.whole taken.1
@@ -336,8 +358,8 @@ module _ (p : StoredProgram) (rules : Rules) (a : Answers) (refuses : Pause → 
   takes_given e no_memory none (Ok endings.NoAnswer) h = fits_unanswered pauses.Ended h
   takes_given e no_memory none (Ok endings.BadAnswer) h = fits_unanswered (pauses.OutOfRange h.0) h.1
   takes_given e no_memory none (Err runs.Memory) h = fits_none (out_of_memory e no_memory h)
-  takes_given e no_memory none (Err runs.Read) h = fits_unfinished errors.Read h
-  takes_given e no_memory none (Err runs.Write) h = fits_unfinished errors.Write h
+  takes_given e no_memory none (Err runs.Read) h = fits_unfinished runs.Read h
+  takes_given e no_memory none (Err runs.Write) h = fits_unfinished runs.Write h
   takes_given e no_memory none (Err runs.Spent) h = absurd h
 
   -- ---- a line that it wasn't given
@@ -357,7 +379,7 @@ module _ (p : StoredProgram) (rules : Rules) (a : Answers) (refuses : Pause → 
     is = left_by new.failures h.exchange _ h.plays;
   }
 
-  unread_led : IsUnfinished refused p rules lines before later errors.Read → WasLed refuses a c d
+  unread_led : IsUnfinished refused p rules lines before later runs.Read → WasLed refuses a c d
   unread_led h = record {
     taken = h.exchange.answers;
     bounds = h.exchange.bounds;
@@ -371,7 +393,7 @@ module _ (p : StoredProgram) (rules : Rules) (a : Answers) (refuses : Pause → 
       let run = finished endings.NoInput h in
       record { same_borrow = run.same_borrow; shows = run.ok; unfailed = run.unfailed (λ f. cc) }
 
-  unread_ending : rules.choose ≡ None → IsUnfinished refused p rules lines before later errors.Read → lines ≡ given
+  unread_ending : rules.choose ≡ None → IsUnfinished refused p rules lines before later runs.Read → lines ≡ given
       → IsFinished refused p rules lines before later endings.NoInput
   unread_ending ends h all =
       subst (λ (choose : Option ℤ). LacksInput refused p rules lines before later choose h.exchange.bytes h.left) ends

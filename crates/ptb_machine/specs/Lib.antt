@@ -13,6 +13,7 @@ pub mod Questions
 pub mod Laws
 pub mod EndingLaws
 pub mod RunDevices
+pub mod RunFaults
 pub mod TurnResults
 pub mod Steps
 pub mod CommandResults

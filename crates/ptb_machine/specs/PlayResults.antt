@@ -12,14 +12,13 @@
 --     RunComes refused p rules rest o n r  what has come of a play by the result r
 use Rattle.std.specs.Prelude.{◌≡◌, ◌⊎◌, ℕ, ◌≤◌, List, [], ◌∷◌, ◌++◌, Result, Ok, Err, ℤ, Option, Some, None}
 use Rattle.ptb_text.specs.Statements.{StoredProgram}
+use Rattle.ptb_text.specs.declared.device_fault.DeviceFault.{DeviceFault}
 use Rattle.ptb_answers.specs.declared.pause.Pause.{Pause}
 use Rattle.ptb_answers.specs.declared.pause.Pause.TheVariants as pauses
 use Rattle.ptb_answers.specs.declared.rules.Rules.{Rules}
 use Rattle.ptb_answers.specs.Outcome.{Answers, Outcome, Done, Asks, Out}
 use Rattle.ptb_command.specs.declared.ending.Ending.{Ending}
 use Rattle.ptb_command.specs.declared.ending.Ending.TheVariants as endings
-use Rattle.ptb_command.specs.Breakage.{Breakage}
-use Rattle.ptb_command.specs.Breakage as errors
 use Rattle.ptb_command.specs.Devices.{Devices, with_failures, Exchange, Exchanges, Refusal}
 use Rattle.ptb_command.specs.Devices.{Unanswered, NoLine, HasBroken}
 use Rattle.ptb_command.specs.Effects.{Begins}
@@ -28,6 +27,7 @@ use Rattle.ptb_command.specs.Traces.{Leaves}
 use Rattle.ptb_machine.specs.declared.fault.RunFault.{RunFault}
 use Rattle.ptb_machine.specs.declared.fault.RunFault.TheVariants as faults
 use Rattle.ptb_machine.specs.Play.{Finish, play, unasked_lines}
+use Rattle.ptb_machine.specs.RunFaults.{fault_of_device}
 
 -- the play took the answers that were exchanged, each to a question with its bound
 pub record Plays (p : StoredProgram) (rules : Rules) (input : List (List ℕ)) (o n : Devices) (x : Exchange)
@@ -85,14 +85,16 @@ module _ (refused : Refusal → Type 0) (p : StoredProgram) (rules : Rules) (inp
 
   -- a device has failed, or was refused memory, and no write failed before; what was shown is a prefix of what the
   -- play shows
-  pub record IsUnfinished (e : Breakage) : Type 0 where
+  pub record IsUnfinished (fault : RunFault) : Type 0 where
+    pub device : DeviceFault
+    pub is : fault ≡ fault_of_device device
     pub exchange : Exchange
     pub left : Answers → Outcome Finish (List ℕ)
     pub plays : Plays p rules input o (with_failures o.screen.failures n) exchange left
-    pub broken : HasBroken refused o.screen n.screen e
+    pub broken : HasBroken refused o.screen n.screen device
     pub continues : PlayContinues exchange left
     -- where the input can't be read the play asks for a line: if these were all lines, it would lack one
-    pub dry : e ≡ errors.Read → input ≡ n.given → LacksInput rules.choose exchange.bytes left
+    pub dry : fault ≡ faults.Read → input ≡ n.given → LacksInput rules.choose exchange.bytes left
 
 -- a play with the lines that were given, and then these
 abbrev pub RunComes : (Refusal → Type 0) → StoredProgram → Rules → List (List ℕ) → Devices → Devices
@@ -106,7 +108,6 @@ RunComes refused p rules rest o n (Ok endings.BadAnswer) =
 RunComes refused p rules rest o n (Ok ending) = IsFinished refused p rules (n.given ++ rest) o n ending
 -- the machine itself takes memory before the run begins
 RunComes refused p rules rest o n (Err faults.Memory) =
-    (n ≡ o) ⊎ IsUnfinished refused p rules (n.given ++ rest) o n errors.Memory
-RunComes refused p rules rest o n (Err faults.Read) = IsUnfinished refused p rules (n.given ++ rest) o n errors.Read
-RunComes refused p rules rest o n (Err faults.Write) = IsUnfinished refused p rules (n.given ++ rest) o n errors.Write
+    (n ≡ o) ⊎ IsUnfinished refused p rules (n.given ++ rest) o n faults.Memory
 RunComes refused p rules rest o n (Err faults.Spent) = ⊥
+RunComes refused p rules rest o n (Err fault) = IsUnfinished refused p rules (n.given ++ rest) o n fault

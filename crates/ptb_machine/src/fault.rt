@@ -44,7 +44,7 @@ impl From<AllocError> for RunFault {
 }
 
 impl From<DeviceFault> for RunFault {
-    ghost use Rattle.ptb_machine.specs.CommandResults.{fault_of_device};
+    ghost use Rattle.ptb_machine.specs.RunFaults.{fault_of_device};
 
     ghost from_gives = { λ fault r. r ≡ fault_of_device fault };
 

@@ -23,9 +23,7 @@ fn stopped(stop: CommandStop) -> Result<Option<Ending>, RunFault>
         CommandStop::Pause(Pause::Ended) => Ok(Some(Ending::NoAnswer)),
         CommandStop::Pause(Pause::OutOfRange(_)) => Ok(Some(Ending::BadAnswer)),
         CommandStop::Pause(Pause::Memory) => Err(RunFault::Memory),
-        CommandStop::Memory => Err(RunFault::Memory),
-        CommandStop::Unread => Err(RunFault::Read),
-        CommandStop::Unwritten => Err(RunFault::Write),
+        CommandStop::Device(fault) => Err(RunFault::from(fault)),
     }
 }
 

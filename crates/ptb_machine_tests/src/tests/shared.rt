@@ -8,7 +8,7 @@ use ptb_command::{CommandIo, CommandStop, Context, Location, Output, Registers};
 use ptb_devices::{Line, Lines, Screen, WriterScreen};
 use ptb_expr::{Listed, Pause, Store};
 use ptb_machine::{CommandCode, Rules, line_at, translate};
-use ptb_text::{ByteSink, ByteSource, Cursor, Device, Letter, Program, load};
+use ptb_text::{ByteSink, ByteSource, Cursor, Device, DeviceFault, Letter, Program, load};
 use std::alloc::{AllocError, Global};
 use std::fmt::Debug;
 use std::io;
@@ -233,7 +233,7 @@ pub(crate) fn done<S: Screen>(
 pub(crate) type Doing = Result<(usize, usize), CommandStop>;
 
 // A command that was stopped by a write that failed.
-pub(crate) const UNWRITTEN: Doing = Err(CommandStop::Unwritten);
+pub(crate) const UNWRITTEN: Doing = Err(CommandStop::Device(DeviceFault::Write));
 
 // A command that asked for an answer where none was left.
 pub(crate) const NO_ANSWER: Doing = Err(CommandStop::Pause(Pause::Ended));
