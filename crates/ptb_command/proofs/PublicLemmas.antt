@@ -20,8 +20,6 @@ pub use Rattle.ptb_command.proofs.PartRefinement.{leaves_at, leaves_itself, leav
 pub use Rattle.ptb_command.proofs.PartRefinement.{refines_part_into}
 pub use Rattle.ptb_command.proofs.PlainCommands.{EndsPlainly, begins_with, does_plainly, done_ends, drop_here}
 pub use Rattle.ptb_command.proofs.PlainCommands.{last_completes, set_completes, variable_set, variable_valued}
-pub use Rattle.ptb_command.proofs.ShownPieces.{report_shown, shown_same, shown_then, statement_line, three_same}
-pub use Rattle.ptb_command.proofs.ShownPieces.{three_shown, unshown_first}
 pub use Rattle.ptb_command.proofs.Stops.{asks_before, wants_before}
 pub use Rattle.ptb_command.proofs.Calls.{called}
 pub use Rattle.ptb_command.proofs.MissedLines.{err_then, miss_unmissed, missed_from, not_missed, not_missed_then}

@@ -29,8 +29,7 @@ use Rattle.ptb_command.specs.Devices.{IsInputFault}
 use Rattle.ptb_command.specs.declared.stop.CommandStop.{CommandStop}
 use Rattle.ptb_command.specs.declared.stop.CommandStop.TheVariants as stops
 use Rattle.ptb_command.specs.Traces.{Trace, trace, fresh_after, RefinesPart}
-use Rattle.ptb_command.specs.ShowResults.{IsShown}
-use Rattle.ptb_command.specs.Stops.{as_stop, WantsLine, DeviceFails, Stops, RefinesPartTo, Comes}
+use Rattle.ptb_command.specs.Stops.{stop_of_device, WantsLine, DeviceFails, Stops, RefinesPartTo, Comes}
 use Rattle.ptb_command.proofs.Exchanges.{with_answers_nil}
 use Rattle.ptb_command.proofs.PartRefinement.{leaves_itself, leaves_to, refines_part_refl}
 
@@ -121,14 +120,6 @@ module _ (old new : ScreenState) (d : Devices) (fresh : Bool) (cells : Cells) (b
   not_shown t later borrow memory screens.Memory kind failed unfailed refused =
       part_shown t.0 (record { shown = t.2; same_borrow = borrow; same_memory = memory }) screens.Memory
       (λ unread. absurd unread) (record { by = inl (refused refl) }, unfailed (λ e. cc))
-
--- bytes that the screen has taken, or not
-pub put_comes : (o : Trace) (d : Devices) (fresh : Bool) (cells : Cells) (bytes : List ℕ)
-    (r : Result (Unit {0}) DeviceFault)
-    → IsShown o (trace d fresh cells) bytes r
-    → Comes nothing_refused o (trace d fresh cells) (show bytes) goes_on (as_stop r)
-put_comes o d fresh cells bytes (Ok x) h = h
-put_comes o d fresh cells bytes (Err fault) h = h
 
 pub shown_as : (o n : Trace) (s bytes : List ℕ) (r : Result (Unit {0}) CommandStop) → s ≡ bytes
     → Comes nothing_refused o n (show s) goes_on r → Comes nothing_refused o n (show bytes) goes_on r

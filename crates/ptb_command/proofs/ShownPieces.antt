@@ -1,94 +1,83 @@
 -- This file proves the result of showing bytes in pieces.
--- Main lemma: `report_shown`.
-use Rattle.std.proofs.Common.{◌≡◌, Bool, List, [], ◌++◌, ℕ, Result, Ok, Err, sym, ap, subst, ◌∙◌, append_assoc}
-use Rattle.std.specs.Prelude.{if◌then◌else◌, take, drop, codes, decimal}
-use Rattle.std.specs.Result.{IsErrAnd}
+-- Main lemmas: `piece_shown`, `piece_fails` and `pieces_shown`.
+use Rattle.std.proofs.Common.{◌≡◌, Bool, false, List, [], ◌∷◌, ◌++◌, ℕ, ◌+◌, ◌<◌, ◌≤◌, get_or, length, take, drop}
+use Rattle.std.proofs.Common.{Result, Ok, Err, refl, sym, ap, subst, ◌∙◌, append-nil}
+use Rattle.std.proofs.lemmas.List.{take-append-drop, take_all, take_more}
+use Rattle.std.proofs.lemmas.List.Concat.{flat_map-append}
 use Rattle.std.proofs.lemmas.Result.{err_from_is_err_and}
-use Rattle.ptb_expr.specs.declared.fault.Fault.{Fault}
-use Rattle.ptb_answers.specs.Outcome.{Answers}
+use Rattle.std.specs.List.{flat_map}
+use Rattle.std.specs.Result.{IsErrAnd}
+use Rattle.ptb_expr.specs.Store.{Cells}
 use Rattle.ptb_text.specs.declared.device_fault.DeviceFault.{DeviceFault}
-use Rattle.ptb_command.specs.declared.stop.CommandStop.TheVariants as stops
-use Rattle.ptb_command.specs.Actions.{and_then, goes_on, show}
-use Rattle.ptb_command.specs.Act.{newline, fault_word, report_bytes}
-use Rattle.ptb_command.specs.Devices.{nothing_refused}
-use Rattle.ptb_command.specs.Traces.{Trace, RefinesPart}
-use Rattle.ptb_command.specs.Stops.{Stops, RefinesPartTo}
+use Rattle.ptb_text.specs.declared.device_fault.DeviceFault.TheVariants as faults
+use Rattle.ptb_command.specs.Actions.{goes_on, show}
+use Rattle.ptb_command.specs.Devices.{Devices, nothing_refused}
+use Rattle.ptb_command.specs.Traces.{Trace, trace, with_pending}
+use Rattle.ptb_command.specs.Stops.{stop_of_device, as_stop, still_shows, Comes}
 use Rattle.ptb_command.specs.ShowResults.{IsShown}
-use Rattle.ptb_command.proofs.Actions.{show_adds}
-use Rattle.ptb_command.proofs.PartRefinement.{refines_part_same, refines_part_then, refines_part_under}
-use Rattle.ptb_command.proofs.Stops.{stops_under, stops_after}
+use Rattle.ptb_command.proofs.GatheredBytes.{unfinished}
+use Rattle.ptb_command.proofs.Pieces.{first_stops, second_comes}
+use Rattle.ptb_command.proofs.Stops.{comes_after}
 
+-- at the exit of a `?`
 pub shown_err : (o n : Trace) (bytes : List ℕ) (r : Result (Unit {0}) DeviceFault) (e : DeviceFault)
-    → IsErrAnd r (λ y. y ≡ e) → Stops nothing_refused (RefinesPartTo o n (show bytes)) n.devices (stops.Device e)
-    → IsShown o n bytes r
+    → IsErrAnd r (λ y. y ≡ e) → IsShown o n bytes (Err e) → IsShown o n bytes r
 shown_err o n bytes r e k s =
     let q = err_from_is_err_and r k in
     subst (λ (x : Result (Unit {0}) DeviceFault). IsShown o n bytes x) (sym (q.1 ∙ ap Err q.2)) s
 
--- ---- two pieces
+-- where a device broke, what was gathered isn't shown
+device_drops : (e : DeviceFault) → still_shows {X = Unit {0}} (Err (stop_of_device e)) ≡ false
+device_drops faults.Read = refl
+device_drops faults.TooLong = refl
+device_drops faults.Write = refl
+device_drops faults.Memory = refl
 
-show_twice : (o : Trace) (xs ys : List ℕ) → RefinesPart o o (show (xs ++ ys)) (and_then (show xs) (λ u. show ys))
-show_twice o xs ys = refines_part_same o _ _ (λ S w. ap
-    (λ (l : List ℕ). λ (a : Answers). goes_on tt (record S { shown = l }) a) (sym (append_assoc S.shown xs ys)))
+-- ---- in two pieces
 
--- once the first is shown the second is left
-shown_first : {o n : Trace} (xs ys : List ℕ) → RefinesPart o n (show xs) (goes_on tt)
-    → RefinesPart o n (show (xs ++ ys)) (show ys)
-shown_first {o = o} xs ys m = refines_part_then (show_twice o xs ys) (refines_part_under (λ u. show ys) m)
+-- the first is shown, or gathered
+pub shown_then : {o m : Trace} (n : Trace) (xs ys : List ℕ) (r : Result (Unit {0}) DeviceFault)
+    → IsShown o m xs (Ok tt) → IsShown m n ys r → IsShown o n (xs ++ ys) r
+shown_then n xs ys r a b = second_comes xs ys nothing_refused n a (as_stop r) b
 
--- ---- a piece of a report, which the code has as us
+-- it isn't: then nothing is gathered
+pub first_fails : (o : Trace) (d : Devices) (fresh : Bool) (cells : Cells) (pending xs ys : List ℕ) (e : DeviceFault)
+    → IsShown o (with_pending pending (trace d fresh cells)) xs (Err e)
+    → IsShown o (trace d fresh cells) (xs ++ ys) (Err e)
+first_fails o d fresh cells pending xs ys e h =
+    first_stops xs ys nothing_refused o (trace d fresh cells) (stop_of_device e)
+    (unfinished nothing_refused o d fresh cells pending (show xs) goes_on (Err (stop_of_device e)) (device_drops e) h)
 
--- once it is shown, what is left is shown
-pub shown_then : {o m : Trace} (n : Trace) (us xs ys : List ℕ) (r : Result (Unit {0}) DeviceFault) → us ≡ xs
-    → RefinesPart o m (show us) (goes_on tt) → IsShown m n ys r → IsShown o n (xs ++ ys) r
-shown_then {o = o} {m = m} n us xs ys r e a b =
-    by_result r (subst (λ (s : List ℕ). RefinesPart o m (show s) (goes_on tt)) e a) b
-  where
-    by_result : (r : Result (Unit {0}) DeviceFault) → RefinesPart o m (show xs) (goes_on tt) → IsShown m n ys r
-        → IsShown o n (xs ++ ys) r
-    by_result (Ok x) a b = refines_part_then (shown_first xs ys a) b
-    by_result (Err e) a b = stops_after nothing_refused n (shown_first xs ys a) (stops.Device e) b
+-- ---- one piece after the other, of which i are done
 
--- where it isn't shown, at the exit of a `?`
-pub unshown_first : (o n : Trace) (us xs ys : List ℕ) (r : Result (Unit {0}) DeviceFault) (e : DeviceFault) → us ≡ xs
-    → IsErrAnd r (λ y. y ≡ e) → IsShown o n us (Err e) → IsShown o n (xs ++ ys) r
-unshown_first o n us xs ys r e k q h =
-    shown_err o n (xs ++ ys) r e q
-    (stops_after nothing_refused n (show_twice o xs ys) (stops.Device e)
-    (stops_under nothing_refused o n (show xs) (λ u. show ys) (λ u. show_adds ys) (stops.Device e)
-    (subst (λ (s : List ℕ). IsShown o n s (Err e)) k h)))
+module _ {X : Type 0} (f : X → List ℕ) (xs : List X) (i : ℕ) (x : X) (within : i < length xs) {o m : Trace}
+    (before : IsShown o m (flat_map f (take i xs)) (Ok tt)) where
+  with_next : flat_map f (take i xs) ++ f (get_or xs i x) ≡ flat_map f (take (i + 1) xs)
+  with_next =
+      ap (λ z. flat_map f (take i xs) ++ z) (sym (append-nil (f (get_or xs i x))))
+      ∙ sym (ap (flat_map f) (take_more xs i x within) ∙ flat_map-append f (take i xs) (get_or xs i x ∷ []))
 
--- ---- a report
+  with_rest : flat_map f (take (i + 1) xs) ++ flat_map f (drop (i + 1) xs) ≡ flat_map f xs
+  with_rest = sym (flat_map-append f (take (i + 1) xs) (drop (i + 1) xs))
+      ∙ ap (flat_map f) (take-append-drop (i + 1) xs)
 
--- what is shown once its first piece is, and once its second is
-abbrev pub statement_line : List ℕ → Fault → List ℕ
-statement_line t f = take f.mark t ++ codes "?" ++ drop f.mark t ++ newline
+  pub piece_shown : (n : Trace) (r : Result (Unit {0}) DeviceFault) → IsShown m n (f (get_or xs i x)) r
+      → IsShown o n (flat_map f (take (i + 1) xs)) r
+  piece_shown n r h = subst (λ (s : List ℕ). IsShown o n s r) with_next
+      (shown_then n (flat_map f (take i xs)) (f (get_or xs i x)) r before h)
 
-abbrev pub first_piece : Bool → ℕ → Fault → List ℕ
-first_piece fresh n f = (if fresh then [] else newline) ++ fault_word f.kind ++ newline ++ decimal n ++ codes " "
+  pub piece_fails : (d : Devices) (fresh : Bool) (cells : Cells) (pending : List ℕ) (e : DeviceFault)
+      → IsShown m (with_pending pending (trace d fresh cells)) (f (get_or xs i x)) (Err e)
+      → IsShown o (trace d fresh cells) (flat_map f xs) (Err e)
+  piece_fails d fresh cells pending e h =
+      subst (λ (s : List ℕ). IsShown o (trace d fresh cells) s (Err e)) with_rest
+      (first_fails o d fresh cells pending (flat_map f (take (i + 1) xs)) (flat_map f (drop (i + 1) xs)) e
+      (piece_shown (with_pending pending (trace d fresh cells)) (Err e) h))
 
-pieces_joined : (a b c d e : List ℕ) → a ++ (b ++ c ++ d ++ e) ≡ a ++ b ++ c ++ d ++ e
-pieces_joined a b c d e =
-    sym (append_assoc a (b ++ c ++ d) e)
-    ∙ ap (λ (x : List ℕ). x ++ e) (sym (append_assoc a (b ++ c) d))
-    ∙ ap (λ (x : List ℕ). x ++ d ++ e) (sym (append_assoc a b c))
-
-pub report_shown : (o m : Trace) (fresh : Bool) (n : ℕ) (t : List ℕ) (f : Fault) (r : Result (Unit {0}) DeviceFault)
-    → IsShown o m (first_piece fresh n f ++ statement_line t f) r → IsShown o m (report_bytes fresh n t f) r
-report_shown o m fresh n t f r h =
-    subst (λ (s : List ℕ). IsShown o m s r)
-    (pieces_joined (first_piece fresh n f) (take f.mark t) (codes "?") (drop f.mark t) newline) h
-
--- where three pieces are shown one after the other
-pub three_shown : (o m : Trace) (a b c : List ℕ) (r : Result (Unit {0}) DeviceFault) → IsShown o m (a ++ (b ++ c)) r
-    → IsShown o m (a ++ b ++ c) r
-three_shown o m a b c r h = subst (λ (s : List ℕ). IsShown o m s r) (sym (append_assoc a b c)) h
-
--- where they are shown at once
-pub shown_same : (o m : Trace) (xs ys : List ℕ) (r : Result (Unit {0}) DeviceFault) → xs ≡ ys → IsShown o m xs r
-    → IsShown o m ys r
-shown_same o m xs ys r e h = subst (λ (s : List ℕ). IsShown o m s r) e h
-
-pub three_same : (a b c x y z : List ℕ) → a ≡ x → b ≡ y → c ≡ z → a ++ b ++ c ≡ x ++ y ++ z
-three_same a b c x y z e k h = ap (λ (s : List ℕ). s ++ b ++ c) e ∙ ap (λ (s : List ℕ). x ++ s ++ c) k
-    ∙ ap (λ (s : List ℕ). x ++ y ++ s) h
+-- after the last of them, what is gathered is shown
+pub pieces_shown : {X : Type 0} (f : X → List ℕ) (xs : List X) (i : ℕ) {o m : Trace} (n : Trace) → length xs ≤ i
+    → IsShown o m (flat_map f (take i xs)) (Ok tt) → (r : Result (Unit {0}) DeviceFault)
+    → Comes nothing_refused m n (goes_on tt) goes_on (as_stop r) → IsShown o n (flat_map f xs) r
+pieces_shown {X} f xs i {o = o} {m = m} n over before r h =
+    comes_after nothing_refused n goes_on
+    (subst (λ (z : List X). IsShown o m (flat_map f z) (Ok tt)) (take_all i xs over) before) (as_stop r) h

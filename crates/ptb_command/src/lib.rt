@@ -12,8 +12,8 @@
 //! by its code what `specs/Act` says, or stops where that does. It may also rely on the parts of commands
 //! of which its short forms are made, `own_value` (the value of an expression that asks nothing),
 //! `place_after_condition` (where a run continues after an IF) and `end_newest_turn` (what a NEXT does
-//! to the newest loop), and on those of a report, `fault_line` (the line that names a fault) and `put`
-//! (shows bytes).
+//! to the newest loop), and on those of a report, `fault_line` (the line that names a fault) and
+//! `put_fault` (shows this line and what comes after it).
 #![tactic(auto)]
 
 mod command_code;
@@ -46,7 +46,7 @@ pub use execution::jumps::place_after_condition;
 pub use execution::plain_values::own_value;
 pub use execution::print::Output;
 pub use execution::turns::end_newest_turn;
-pub use fault_words::fault_line;
+pub use fault_words::{fault_line, put_fault};
 pub use location::Location;
 pub use operation::{Destination, Expression, Literal, Operation, Prompt, Range};
 pub use registers::Registers;
@@ -54,5 +54,4 @@ pub use saved_registers::SavedRegisters;
 pub use stack::{OpenLoop, Stack};
 pub use statement_places::{line_at, start_of};
 pub use stop::CommandStop;
-pub use transcript::put;
 pub use translation::translate;

@@ -1,12 +1,12 @@
-// This file gathers what a command shows, so that the screen gets it at once.
+// This file gathers what is shown, so that the screen gets it at once.
 
 ghost use Rattle.std.specs.Prelude.{◌≡◌, ◌↔◌, ◌≤◌, ◌+◌, ◌++◌, ◌∷◌, List, ℕ, [], length, IsTrue, IsFalse};
 ghost use Rattle.std.specs.Prelude.{drop, take};
 ghost use Rattle.ptb_command.specs.Prelude.{Cells, goes_on, show_action, Devices, screen_state, with_screen};
-ghost use Rattle.ptb_command.specs.Prelude.{nothing_refused, as_stop, trace, with_pending, Comes};
+ghost use Rattle.ptb_command.specs.Prelude.{nothing_refused, as_stop, trace, with_pending, Comes, IsShown};
 
 use crate::stop::CommandStop;
-use crate::transcript::{put, show};
+use crate::transcript::put;
 use ptb_devices::Screen;
 use ptb_text::{ByteBuffer, DeviceFault};
 use std::marker::Model;
@@ -17,7 +17,7 @@ pub(crate) const PENDING_LIMIT: usize = 512;
 /// How many bytes are copied at once, where few are gathered.
 pub(crate) const BLOCK: usize = 16;
 
-/// What a command is to show, and hasn't shown yet. It takes no memory. Contracts see its bytes.
+/// What is to be shown, and isn't shown yet. It takes no memory. Contracts see its bytes.
 #[derive(Drop)]
 pub struct PendingOutput {
     buffer: ByteBuffer<PENDING_LIMIT>,
@@ -184,8 +184,7 @@ impl PendingOutput {
         self.flush_and_append(screen, fresh, bytes)
     }
 
-    // Shows what was gathered, and after it bytes for which there was no room: these later, if
-    // there is room then.
+    // Shows bytes for which there is no room.
     #[inline(never)]
     fn flush_and_append<S: Screen>(
         &mut self,
@@ -200,10 +199,36 @@ impl PendingOutput {
             (trace (with_screen (screen_state S.Screen screen.new) d) fresh.new cells))
             (show_action bytes.now) goes_on result }
     {
+        self.put(screen, fresh, bytes)?;
+        Ok(())
+    }
+
+    /// Shows bytes: later, with others, if there is room for them. Otherwise what was gathered is shown
+    /// first.
+    ///
+    /// # Errors
+    ///
+    /// [`DeviceFault`] where the screen doesn't show them. Nothing is gathered then.
+    pub(crate) fn put<S: Screen>(
+        &mut self,
+        screen: &mut S,
+        fresh: &mut bool,
+        bytes: &[u8],
+    ) -> Result<(), DeviceFault>
+        ensures { (d : Devices) (cells : Cells) → IsShown
+            (with_pending self.old
+            (trace (with_screen (screen_state S.Screen screen.old) d) fresh.old cells))
+            (with_pending self.new
+            (trace (with_screen (screen_state S.Screen screen.new) d) fresh.new cells))
+            bytes.now result }
+    {
+        if self.try_append(bytes) {
+            return Ok(());
+        }
         self.flush(screen, fresh)?;
         if self.try_append(bytes) {
             return Ok(());
         }
-        show(screen, fresh, bytes)
+        put(screen, fresh, bytes)
     }
 }

@@ -16,6 +16,7 @@ mod PartAnswers
 mod PlayReads
 mod ProgramQuestions
 mod PlainTurns
+mod ReportPieces
 mod Results
 mod Runs
 mod SpentAnswers

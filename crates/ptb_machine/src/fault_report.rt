@@ -1,18 +1,14 @@
 // This file reports a fault.
 
-ghost use Rattle.std.specs.Prelude.{◌≡◌, ◌++◌, take, drop, IfSome};
+ghost use Rattle.std.specs.Prelude.{◌≡◌, take, drop};
 ghost use Rattle.ptb_machine.specs.Prelude.{Cells, ending_of, report_bytes, Devices, screen_state, with_screen, trace};
 ghost use Rattle.ptb_machine.specs.Prelude.{IsShown};
 
 use itoa::Buffer;
-use ptb_command::{Ending, fault_line, put};
+use ptb_command::{Ending, put_fault};
 use ptb_devices::Screen;
 use ptb_expr::{Fault, FaultKind};
-use ptb_text::{ByteBuffer, DeviceFault};
-
-/// How many bytes are put together, so that they are shown at once: a statement's text has at most
-/// 255.
-const JOIN_LIMIT: usize = 320;
+use ptb_text::DeviceFault;
 
 /// How a run ends that a fault ends.
 pub(crate) fn ending_of(kind: FaultKind) -> Ending
@@ -37,36 +33,6 @@ fn text_after(text: &[u8], mark: usize) -> &[u8]
     ensures { result.now ≡ drop mark text.now }
 {
     &text[mark.min(text.len())..]
-}
-
-// Three pieces, one after the other, where there is room for them.
-fn joined(first: &[u8], second: &[u8], third: &[u8]) -> Option<ByteBuffer<JOIN_LIMIT>>
-    ensures { IfSome result (λ bytes. bytes ≡ first.now ++ second.now ++ third.now) }
-{
-    let mut bytes = ByteBuffer::new();
-    let is_whole = bytes.try_append(first) && bytes.try_append(second) && bytes.try_append(third);
-    is_whole.then_some(bytes)
-}
-
-// Shows three pieces: at once, where there is room for them.
-fn put_joined<S: Screen>(
-    screen: &mut S,
-    fresh: &mut bool,
-    first: &[u8],
-    second: &[u8],
-    third: &[u8],
-) -> Result<(), DeviceFault>
-    ensures { (d : Devices) (cells : Cells) → IsShown
-        (trace (with_screen (screen_state S.Screen screen.old) d) fresh.old cells)
-        (trace (with_screen (screen_state S.Screen screen.new) d) fresh.new cells)
-        (first.now ++ second.now ++ third.now) result }
-{
-    if let Some(bytes) = joined(first, second, third) {
-        return put(screen, fresh, bytes.as_slice());
-    }
-    put(screen, fresh, first)?;
-    put(screen, fresh, second)?;
-    put(screen, fresh, third)
 }
 
 /// Shows what is wrong with the statement of this number and text: the word of the fault on a line of
@@ -95,7 +61,6 @@ pub fn report_fault<S: Screen>(
     let digits = buffer.format(number).as_bytes();
     let before = text_before(text, fault.mark);
     let following = text_after(text, fault.mark);
-    put_joined(screen, fresh, fault_line(*fresh, fault.kind), digits, b" ")?;
-    put_joined(screen, fresh, before, b"?", following)?;
-    put(screen, fresh, b"\n")
+    let pieces = [digits, b" ", before, b"?", following, b"\n"];
+    put_fault(screen, fresh, fault.kind, &pieces)
 }

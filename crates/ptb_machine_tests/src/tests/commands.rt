@@ -6,10 +6,10 @@ use crate::tests::shared::{
 };
 use ptb_command::{
     CommandStop, Context, Location, OpenLoop, Output, Registers, SavedRegisters, Stack,
-    next_command, place_after_condition, put,
+    next_command, place_after_condition, put_fault,
 };
 use ptb_devices::TextScreen;
-use ptb_expr::Store;
+use ptb_expr::{FaultKind, Store};
 use ptb_machine::{line_at, start_of};
 use ptb_text::{Letter, LoadFault, Program};
 use std::alloc::{AllocError, Global};
@@ -494,22 +494,24 @@ fn first_commands(rt: HostRuntime) {
     }
 }
 
-// Bytes that are shown, and whether a transcript is fresh before and after them.
-const SHOWN: &[(&str, bool, bool)] = &[
-    ("", true, true),
-    ("", false, false),
-    ("A", true, false),
-    ("A\n", false, true),
-    ("\nA", true, false),
+// What is shown after the line of HOW?, whether the transcript is fresh before, what is shown then, and
+// whether the transcript is fresh after it.
+const SHOWN: &[(&str, bool, &str, bool)] = &[
+    ("", true, "HOW?\n", true),
+    ("", false, "\nHOW?\n", true),
+    ("A", true, "HOW?\nA", false),
+    ("A\n", false, "\nHOW?\nA\n", true),
+    ("\nA", true, "HOW?\n\nA", false),
 ];
 
 #[test]
 fn freshness(rt: HostRuntime) {
-    for &(text, before, after) in SHOWN {
+    for &(text, before, shown, after) in SHOWN {
         let mut screen = TextScreen::new(rt.alloc());
         let mut fresh = before;
-        let is_shown = put(&mut screen, &mut fresh, text.as_bytes()).is_ok();
+        let pieces = &[text.as_bytes()];
+        let is_shown = put_fault(&mut screen, &mut fresh, FaultKind::How, pieces).is_ok();
         let found = (is_shown, screen.bytes(), fresh);
-        expect_eq(&rt, text, found, (true, text.as_bytes(), after));
+        expect_eq(&rt, text, found, (true, shown.as_bytes(), after));
     }
 }

@@ -1,13 +1,16 @@
-// This file tests how many writes a PRINT or an INPUT takes, and what it has shown where it stops.
+// This file tests how many writes a PRINT, an INPUT or the report of a fault takes, and what it has shown
+// where it stops.
 
 use crate::tests::shared::{
     Counted, Doing, NO_ANSWER, Offer, UNWRITTEN, doing, done, expect_eq, fault, lines_of, table,
     with_line,
 };
-use ptb_command::{CommandStop, Output, Registers};
+use ptb_command::{CommandStop, Output, Registers, put_fault};
 use ptb_devices::{Line, WriterScreen};
-use ptb_text::{Device, Program};
-use std::alloc::Global;
+use ptb_expr::{Fault, FaultKind};
+use ptb_machine::report_fault;
+use ptb_text::{Device, DeviceFault, Program};
+use std::alloc::{AllocError, Global};
 use std::process::Abort;
 
 // The lines of the input, the answers, and how many writes the writer takes.
@@ -125,4 +128,107 @@ fn writes(rt: HostRuntime) {
     for &row in WRITES {
         expect_written(&rt, rt.alloc(), &mut output, row);
     }
+}
+
+// Bytes that fill the room after the line of HOW?, and more than are gathered.
+const FULL: &[u8] = &[b'F'; 507];
+
+const LONG: &[u8] = &[b'L'; 513];
+
+// The pieces after the line of HOW?, how many writes the writer takes, whether all bytes are shown, how
+// many are, and how many writes are left.
+type Pieces = (
+    &'static [&'static [u8]],
+    usize,
+    Result<(), DeviceFault>,
+    usize,
+    usize,
+);
+
+const PIECES: &[Pieces] = table! {
+    (&[], 2, Ok(()), 5, 1),
+    (&[b"1", b"", b"23"], 2, Ok(()), 8, 1),
+    (&[FULL], 2, Ok(()), 512, 1),
+    (&[FULL, b""], 2, Ok(()), 512, 1),
+    (&[FULL, b"1", b"2"], 3, Ok(()), 514, 1),
+    (&[b"1", FULL], 3, Ok(()), 513, 1),
+    (&[LONG], 3, Ok(()), 518, 1),
+    (&[LONG, b"1"], 4, Ok(()), 519, 1),
+    (&[b"1"], 0, Err(DeviceFault::Write), 0, 0),
+    (&[FULL, b"1"], 1, Err(DeviceFault::Write), 512, 0),
+    (&[LONG, b"1"], 1, Err(DeviceFault::Write), 5, 0),
+    (&[LONG, b"1"], 2, Err(DeviceFault::Write), 518, 0),
+};
+
+// Shows the line of HOW? and pieces with a writer that takes so many writes: whether all are shown, and
+// how many writes are left.
+fn put_counted(
+    pieces: &[&[u8]],
+    mut writes_left: usize,
+    taken: &mut Vec<u8>,
+) -> (Result<(), DeviceFault>, usize) {
+    let mut writer = Device::new(Counted {
+        taken,
+        most: usize::MAX,
+        writes_left: &mut writes_left,
+    });
+    let mut screen = WriterScreen::new(&mut writer);
+    let mut fresh = true;
+    let result = put_fault(&mut screen, &mut fresh, FaultKind::How, pieces);
+    drop(screen);
+    drop(writer);
+    (result, writes_left)
+}
+
+// The line of HOW? and the pieces, one after the other.
+fn joined(alloc: Global, pieces: &[&[u8]]) -> Result<Vec<u8>, AllocError> {
+    let mut bytes = Vec::from_slice(alloc, b"HOW?\n")?;
+    for piece in pieces {
+        bytes.extend_from_slice(piece)?;
+    }
+    Ok(bytes)
+}
+
+#[test]
+fn writes_of_pieces(rt: HostRuntime) {
+    for &(pieces, writes, want, count, left) in PIECES {
+        let mut taken = Vec::new(rt.alloc());
+        let found = put_counted(pieces, writes, &mut taken);
+        expect_eq(&rt, "pieces", found, (want, left));
+        let due = joined(rt.alloc(), pieces).expect(&rt, "memory");
+        expect_eq(
+            &rt,
+            "shown",
+            Some(taken.as_slice()),
+            due.as_slice().get(..count),
+        );
+    }
+}
+
+// The report of a fault is one write, even of the longest statement.
+#[test]
+fn writes_of_a_report(rt: HostRuntime) {
+    let mut writes_left = 2;
+    let mut taken = Vec::new(rt.alloc());
+    let mut writer = Device::new(Counted {
+        taken: &mut taken,
+        most: usize::MAX,
+        writes_left: &mut writes_left,
+    });
+    let mut screen = WriterScreen::new(&mut writer);
+    let mut fresh = false;
+    let fault = Fault {
+        kind: FaultKind::Sorry,
+        mark: 200,
+    };
+    let result = report_fault(&mut screen, &mut fresh, 32767, &[b'A'; 255], fault);
+    drop(screen);
+    drop(writer);
+    expect_eq(
+        &rt,
+        "a report",
+        (result, fresh, writes_left),
+        (Ok(()), true, 1),
+    );
+    expect_eq(&rt, "its length", taken.len(), 270);
 }
