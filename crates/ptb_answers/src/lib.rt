@@ -5,18 +5,22 @@
 //! above may rely on the laws of `Chooser` (an answer is one to its question, and what was given
 //! grows by it), on `Listed` (the answers of a list, in order), on `Seeded`, whose answers are those
 //! of `specs/Seeds`, and on what the command line and the machine share: the `Rules` of a run, and how
-//! lists of answers are written (`Form`, `Marked` and `specs/AnswerText`), or kept (`Asked` and
-//! `specs/AskedQuestions`).
+//! lists of answers are written (`Form`, `Marked` and `specs/AnswerText`), or kept (`Asked`, its views
+//! `Answers` and `Bounds`, and `specs/AskedQuestions`).
 #![tactic(auto)]
 
+mod answers;
 mod asked;
+mod bounds;
 mod chooser;
 mod form;
 mod pause;
 mod rules;
 mod seeded;
 
+pub use answers::Answers;
 pub use asked::Asked;
+pub use bounds::Bounds;
 pub use chooser::{Chooser, Listed};
 pub use form::{Form, Marked};
 pub use pause::Pause;

@@ -6,7 +6,9 @@ ghost use Rattle.ptb_answers.specs.AskedQuestions.{answers_in, bounds_in};
 ghost use Rattle.ptb_answers.specs.Seeds.{drawn_answer, drawn_from, generator_after};
 ghost use Rattle.ptb_answers.specs.Seeds.{generator_of, seeded_choices};
 
+use crate::answers::Answers;
 use crate::asked::Asked;
+use crate::bounds::Bounds;
 use crate::chooser::Chooser;
 use crate::pause::Pause;
 use rand_core::utils::NextWord;
@@ -63,6 +65,24 @@ impl Seeded {
         ensures bounds { bounds_in result.now ≡ self.now.bounds }
     {
         self.asked.as_slice()
+    }
+
+    /// The answers that it gave, in order.
+    ///
+    /// For users of the library: the program calls [`asked`](Seeded::asked).
+    pub fn answers(&self) -> Answers<'_>
+        ensures { result ≡ drawn_from self.now.first self.now.bounds }
+    {
+        Answers::new(self.asked())
+    }
+
+    /// The bounds of the questions that it answered, in order.
+    ///
+    /// For users of the library: the program calls [`asked`](Seeded::asked).
+    pub fn bounds(&self) -> Bounds<'_>
+        ensures { result ≡ self.now.bounds }
+    {
+        Bounds::new(self.asked())
     }
 
     /// Forgets the answers that it gave, and keeps their room. The next answer is drawn by the word

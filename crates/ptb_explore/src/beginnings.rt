@@ -11,7 +11,7 @@ use crate::fault::ExploreFault;
 use crate::plan::ListingPosition;
 use crate::report_text::write_list;
 use crate::runner::Runner;
-use ptb_answers::{Asked, Form};
+use ptb_answers::{Answers, Asked, Bounds, Form};
 use ptb_machine::{Line, Rules, run_laws};
 use ptb_text::{DeviceFault, Program, Write};
 use std::alloc::{AllocError, Global};
@@ -135,6 +135,24 @@ impl<'a> Beginnings<'a> {
     {
         run_laws();
         &self.runner.report.asked
+    }
+
+    /// The answers of the list at which the search is, in order.
+    ///
+    /// For users of the library: the program calls [`asked`](Beginnings::asked).
+    pub fn answers(&self) -> Answers<'_>
+        ensures { (u : Answers) → self.now.front ≡ At u → result ≡ u }
+    {
+        Answers::new(self.asked())
+    }
+
+    /// The bounds of the questions that this list answers, in order.
+    ///
+    /// For users of the library: the program calls [`asked`](Beginnings::asked).
+    pub fn bounds(&self) -> Bounds<'_>
+        ensures { (u : Answers) → self.now.front ≡ At u → result ≡ bounds_of (split_play self.now) u }
+    {
+        Bounds::new(self.asked())
     }
 }
 

@@ -41,7 +41,7 @@ pub use laws::{
 };
 pub use listing::write_all_runs;
 pub use mismatch::{Mismatch, mismatch_laws};
-pub use ptb_answers::{Asked, Form, Marked};
+pub use ptb_answers::{Answers, Asked, Bounds, Form, Marked};
 pub use report::Report;
 pub use report_text::Parts;
 pub use report_writer::ReportWriter;

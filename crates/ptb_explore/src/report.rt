@@ -1,11 +1,12 @@
 // This file has the reports of runs.
 
 ghost use Rattle.std.specs.Prelude.{◌≡◌, []};
-ghost use Rattle.ptb_explore.specs.Prelude.{asked_items, ending_word, report_text, WritesText, writes_of};
+ghost use Rattle.ptb_explore.specs.Prelude.{answers_in, bounds_in, asked_items, ending_word, report_text};
+ghost use Rattle.ptb_explore.specs.Prelude.{WritesText, writes_of};
 
 use crate::report_text::Parts;
 use crate::report_writer::ReportWriter;
-use ptb_answers::{Asked, Form};
+use ptb_answers::{Answers, Asked, Bounds, Form};
 use ptb_machine::{Ending, ending_word};
 use ptb_text::{DeviceFault, Write};
 use std::alloc::Global;
@@ -34,6 +35,24 @@ impl Report {
             steps: 0,
             transcript: Vec::new(alloc),
         }
+    }
+
+    /// The answers that the run took, in order.
+    ///
+    /// For users of the library: the program reads `asked`.
+    pub fn answers(&self) -> Answers<'_>
+        ensures { result ≡ answers_in self.now.asked.items }
+    {
+        Answers::new(&self.asked)
+    }
+
+    /// The bounds of the questions that the run answered, in order.
+    ///
+    /// For users of the library: the program reads `asked`.
+    pub fn bounds(&self) -> Bounds<'_>
+        ensures { result ≡ bounds_in self.now.asked.items }
+    {
+        Bounds::new(&self.asked)
     }
 
     /// Writes the report, with its answers as the form has them.

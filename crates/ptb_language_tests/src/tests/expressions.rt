@@ -619,7 +619,10 @@ fn are_two_rolls(store: &Store, seeded: &mut Seeded, first: i16, second: i16) ->
         [one, other] => (one.answer, one.bound, other.answer, other.bound),
         _ => return false,
     };
-    kept == (first, 6, second, 6) && found == (i64::from(first), i64::from(second))
+    kept == (first, 6, second, 6)
+        && found == (i64::from(first), i64::from(second))
+        && seeded.answers().eq([first, second])
+        && seeded.bounds().eq([6, 6])
 }
 
 // Once answers are forgotten, the next ones are drawn by the words that follow. The words are those of

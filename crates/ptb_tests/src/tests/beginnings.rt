@@ -2,7 +2,9 @@
 // is refused.
 
 use crate::tests::explorers::BRANCHES;
-use crate::tests::shared::{are_asked, expect_rows, expect_same, loaded, plain_rules, table};
+use crate::tests::shared::{
+    are_asked, are_viewed, expect_rows, expect_same, loaded, plain_rules, table,
+};
 use crate::tests::written_rows::{Source, Writing, Written, expect_begun};
 use ptb_explore::{Beginnings, ExploreFault, Form, write_beginnings};
 use ptb_text::Device;
@@ -56,7 +58,9 @@ fn writes_lists(rt: HostRuntime) {
 
 // Whether the next list has these answers and bounds.
 fn is_next(lists: &mut Beginnings, answers: &[i16], bounds: &[i16]) -> bool {
-    matches!(lists.next(), Ok(true)) && are_asked(lists.asked(), answers, bounds)
+    matches!(lists.next(), Ok(true))
+        && are_asked(lists.asked(), answers, bounds)
+        && are_viewed(lists.answers(), lists.bounds(), answers, bounds)
 }
 
 // Whether no list is left.

@@ -2,8 +2,8 @@
 
 use crate::tests::explorers::{ALL, Listing, Runs, explorer_of};
 use crate::tests::shared::{
-    ONE_OF_6, Row, THREE, THREE_OF_3, ZERO, are_asked, expect_rows, expect_same, loaded,
-    plain_rules, table,
+    ONE_OF_6, Row, THREE, THREE_OF_3, ZERO, are_asked, are_viewed, expect_rows, expect_same,
+    loaded, plain_rules, table,
 };
 use crate::tests::written_rows::{Source, Writing, Written, source_of};
 use ptb_explore::{Form, Marked, OpenFault};
@@ -25,7 +25,10 @@ fn is_next(
         return false;
     };
     match explorer.next() {
-        Ok(Some(report)) => are_asked(&report.asked, answers, bounds),
+        Ok(Some(report)) => {
+            are_asked(&report.asked, answers, bounds)
+                && are_viewed(report.answers(), report.bounds(), answers, bounds)
+        }
         _ => false,
     }
 }

@@ -1,6 +1,6 @@
 // This file has what several of the tests use: rules, answers, programs, and tables whose rows must be so.
 
-use ptb_explore::{Asked, Marked};
+use ptb_explore::{Answers, Asked, Bounds, Marked};
 use ptb_machine::{Line, Rules, read_lines};
 use ptb_text::{Device, DeviceFault, LoadFault, Program, load};
 use std::alloc::Global;
@@ -44,6 +44,22 @@ pub(crate) fn are_asked(asked: &[Asked], answers: &[i16], bounds: &[i16]) -> boo
         }
     }
     true
+}
+
+/// Whether the views of a list of questions have these answers and bounds, and say before how many they
+/// are.
+pub(crate) fn are_viewed(
+    answers: Answers,
+    bounds: Bounds,
+    due_answers: &[i16],
+    due_bounds: &[i16],
+) -> bool {
+    answers.len() == due_answers.len()
+        && bounds.len() == due_bounds.len()
+        && answers.size_hint() == (due_answers.len(), Some(due_answers.len()))
+        && bounds.size_hint() == (due_bounds.len(), Some(due_bounds.len()))
+        && answers.eq(due_answers.iter().copied())
+        && bounds.eq(due_bounds.iter().copied())
 }
 
 // An answer, with its bound or without, for lists that are constants.
