@@ -40,3 +40,4 @@ mod ReportAnswers
 mod StoppedPlays
 mod StoppedPlans
 mod WrittenLines
+mod PlayedLists

@@ -12,7 +12,7 @@ use Rattle.ptb_command.specs.Commands.{Command}
 use Rattle.ptb_command.specs.Configuration.{Configuration}
 use Rattle.ptb_command.specs.declared.ending.Ending.{Ending}
 use Rattle.ptb_command.specs.declared.ending.Ending.TheVariants as endings
-use Rattle.ptb_command.specs.State.{Place, State, next_command}
+use Rattle.ptb_command.specs.State.{Place, State, first_state, next_command}
 use Rattle.ptb_machine.specs.Laws.{RunLaws}
 use Rattle.ptb_machine.specs.Play.{Finish, act_unless, after_step_result, finish_in, play, turn, turn_by, turns}
 use Rattle.ptb_explore.specs.Copies.{AreTakenBy}
@@ -50,6 +50,22 @@ run_over laws p rules S a h =
     let o = laws.by_turn p rules.limit S a ∙ ap (λ o. go_on o (after_step_result (turns p rules.limit))) t.1 in
     (finish_in t.0 S, ap (map_outcome (λ f. f) (λ (T : State). T.shown)) o)
 
+-- ---- from its first state
+
+pub play-is : (p : StoredProgram) (input : List (List ℕ)) (rules : Rules) (a : Answers)
+    → play p input rules a ≡ run_from p rules (first_state p input rules.choose) a
+unfolding play
+play-is p input rules a = refl
+
+-- a run that is underway is so under each limit that isn't less than its steps
+play_reached : (p : StoredProgram) (input : List (List ℕ)) (rules : Rules) (c : Choices) (s : List ℕ)
+    (left : List (List ℕ)) (m : Configuration) (u : IsRunPrefix p input rules c s left m) (limit : ℕ)
+    → u.state.steps ≤ limit → (later : Answers)
+    → play p input (limited rules limit) (c.taken ++ later) ≡ run_from p (limited rules limit) u.state later
+play_reached p input rules c s left m u limit within later =
+    play-is p input (limited rules limit) (c.taken ++ later)
+    ∙ ap (map_outcome (λ f. f) (λ (T : State). T.shown)) (u.reached limit within later)
+
 -- ---- by which command answers are taken
 
 rest_left : (f : Finish) (rest : Answers) → 0 < length rest → is_whole {A = Finish} {W = List ℕ} (Done f rest) ≡ true
@@ -68,13 +84,14 @@ taken_by laws p input rules m new c d s t left rest more u v taken some step = r
       let over = run_over laws p (limited rules new.steps) v.state [] (omega (arith, here)) in
       let is : play p input (limited rules new.steps) d.taken ≡ Done over.0 [] =
       ap (play p input (limited rules new.steps)) (sym (append-nil d.taken))
-      ∙ v.reached new.steps (omega (arith, here)) [] ∙ over.1 in
+      ∙ play_reached p input rules d t rest new v new.steps (omega (arith, here)) [] ∙ over.1 in
       ap is_whole is;
   no_sooner = λ run.
       let n = new.steps - 1 in
       let here : u.state.steps ≡ m.steps = u.represents.steps in
       let over = run_over laws p (limited rules n) u.state more (omega (arith, here, step)) in
       let is : play p input (limited rules n) d.taken ≡ Done over.0 more =
-      ap (play p input (limited rules n)) taken ∙ u.reached n (omega (arith, here, step)) more ∙ over.1 in
+      ap (play p input (limited rules n)) taken
+      ∙ play_reached p input rules c s left m u n (omega (arith, here, step)) more ∙ over.1 in
       rest_left over.0 more some (sym (ap is_whole is) ∙ run);
 }

@@ -41,8 +41,11 @@ abbrev Found : Type 0
 Found = Result (Option (Bor Report)) AllocError
 
 -- past the last run none is left
-none_left : (e : Exploration) (b : Answers) → is_left e.under End b ≡ true → ⊥
-none_left e b h = absurd (false≢true (sym (and_false (begins_with b e.under)) ∙ h))
+pub none_left : (under b : Answers) → is_left under End b ≡ true → ⊥
+none_left under b h = absurd (false≢true (sym (and_false (begins_with b under)) ∙ h))
+
+abbrev steps_by : Exploration → Answers → ℕ
+steps_by e a = run_steps (play_of e a)
 
 module _ (old new : Exploration) (reads : IsReader (play_of old) (most_of old)) where
   -- it was played, and is no longer left
@@ -51,20 +54,20 @@ module _ (old new : Exploration) (reads : IsReader (play_of old) (most_of old)) 
   found_plays r h reports first =
       let a = answers_in r.asked.items in
       let left : steps_left new
-      ≡ steps_of_runs (play_of old) (runs_after (play_of old) (most_of old) old.under (At a)) = ap steps_left h.now in
+      ≡ steps_of_runs (steps_by old) (runs_after (play_of old) (most_of old) old.under (At a)) = ap steps_left h.now in
       let plays : new.played ≡ played_after old.kept old.played r = ap (λ (x : Exploration). x.played) h.now in
       let run : run_steps (play_of old a) ≡ r.steps = ap run_steps reports.outcome in
-      let was : steps_left old ≡ run_steps (play_of old a) + steps_of_runs (play_of old)
+      let was : steps_left old ≡ run_steps (play_of old a) + steps_of_runs (steps_by old)
       (runs_after (play_of old) (most_of old) old.under (At a)) =
-      ap (steps_of_runs (play_of old)) (left_next (play_of old) (most_of old) reads old.under old.front a first) in
+      ap (steps_of_runs (steps_by old)) (left_next (play_of old) (most_of old) reads old.under old.front a first) in
       omega (arith, left, plays, run, was)
 
   -- none is left
   last_plays : new ≡ record old { front = End; kept = [] } → PlaysRuns old new
   last_plays h =
       let left : steps_left new ≡ 0 =
-      ap steps_left h ∙ ap (steps_of_runs (play_of old))
-      (left_none (play_of old) (most_of old) reads old.under End (λ b run k. absurd (none_left old b k))) in
+      ap steps_left h ∙ ap (steps_of_runs (steps_by old))
+      (left_none (play_of old) (most_of old) reads old.under End (λ b run k. absurd (none_left old.under b k))) in
       let plays : new.played ≡ old.played = ap (λ (x : Exploration). x.played) h in
       omega (arith, left, plays)
 

@@ -33,10 +33,11 @@ use Rattle.ptb_answers.specs.declared.rules.Rules.{Rules}
 use Rattle.ptb_machine.specs.Questions.{most_answers}
 use Rattle.ptb_machine.proofs.PublicLemmas.{of_turn}
 use Rattle.ptb_explore.specs.Laws.{TreeLaws}
-use Rattle.ptb_explore.specs.PlannedPlays.{Holds, NextIsOutside, PlayEnds, limited, IsRunPrefix}
+use Rattle.ptb_machine.specs.RunEffects.{steps_of_run}
+use Rattle.ptb_explore.specs.PlannedPlays.{Holds, NextIsOutside, PlayEnds, IsRunPrefix, play_steps}
 use Rattle.ptb_machine.specs.Play.{run_from}
 use Rattle.ptb_explore.specs.Recorders.{RefusedByPlan}
-use Rattle.ptb_explore.proofs.Limits.{turn_below}
+use Rattle.ptb_explore.proofs.Limits.{play-is, turn_below}
 use Rattle.ptb_explore.proofs.Tree.{tree_laws}
 use Rattle.ptb_explore.proofs.Bounds.{holds_on, holds_at_first}
 
@@ -47,11 +48,6 @@ text_state s = record { shown = Some s; failures = 0; borrow = None; takes_memor
 -- what is left of a run once a turn has come to an outcome
 abbrev pub from_turn : StoredProgram → Rules → Outcome StepResult State → Outcome Finish (List ℕ)
 from_turn p rules o = map_outcome (λ f. f) (λ (T : State). T.shown) (go_on o (after_step_result (turns p rules.limit)))
-
-play-is : (p : StoredProgram) (input : List (List ℕ)) (rules : Rules) (a : Answers)
-    → play p input rules a ≡ run_from p rules (first_state p input rules.choose) a
-unfolding play
-play-is p input rules a = refl
 
 pub run_prefix_at_first : (p : StoredProgram) (input : List (List ℕ)) (rules : Rules) (c : Choices) (m : Configuration)
     → c.taken ≡ [] → c.kept ≡ Some [] → Represents p.lines m (first_state p input rules.choose)
@@ -65,8 +61,9 @@ run_prefix_at_first p input rules c m t k s =
       left_is = refl;
       choose = refl;
       holds = record { bounds_are = h.bounds_are; rest = λ later. h.rest later ∙ play-is p input rules later };
-      reached = λ limit within later. ap (λ a. play p input (limited rules limit) (a ++ later)) t
-          ∙ play-is p input (limited rules limit) later;
+      within = omega arith;
+      reached = λ limit within later.
+          ap (λ a. turns p limit (first_state p input rules.choose) (a ++ later)) t;
     }
 
 -- a turn that is put into a run asks what it asked before
@@ -122,7 +119,7 @@ module _ (laws : RunLaws) (p : StoredProgram) (input : List (List ℕ)) (rules :
       (x : StepsTo p.lines new (devices c (text_state s) most rules.choose []) u.state rest (turn p rules.limit u.state)
       (devices d (text_state t) few rules.choose given) goes) where
     goes_reached : (limit : ℕ) → x.leads.state.steps ≤ limit → (later : Answers)
-        → play p input (limited rules limit) (d.taken ++ later) ≡ run_from p (limited rules limit) x.leads.state later
+        → turns p limit (first_state p input rules.choose) (d.taken ++ later) ≡ turns p limit x.leads.state later
     goes_reached limit within later =
         let ts = x.exchange.answers in
         let one = laws.one_step p rules.limit u.state x.leads.state (ts ++ []) []
@@ -131,11 +128,18 @@ module _ (laws : RunLaws) (p : StoredProgram) (input : List (List ℕ)) (rules :
         let goes_so : turn p limit u.state (ts ++ later) ≡ Done (Next x.leads.state) later =
         turn_below p rules.limit limit u.state (ts ++ later) one.0 below ∙ ap (λ f. f later) x.leads.leaves.rest in
         let taken : d.taken ≡ c.taken ++ ts = ap (λ y. y.taken) x.exchanges.grown in
-        ap (λ a. play p input (limited rules limit) (a ++ later)) taken
-        ∙ ap (play p input (limited rules limit)) (append_assoc c.taken ts later)
-        ∙ u.reached limit (omega (arith, below)) (ts ++ later)
-        ∙ ap (map_outcome (λ f. f) (λ (T : State). T.shown)) (laws.by_turn p limit u.state (ts ++ later)
-        ∙ ap (λ o. go_on o (after_step_result (turns p limit))) goes_so)
+        let first = first_state p input rules.choose in
+        ap (λ a. turns p limit first (a ++ later)) taken
+        ∙ ap (turns p limit first) (append_assoc c.taken ts later)
+        ∙ u.reached limit (omega (arith, below)) (ts ++ later) ∙ laws.by_turn p limit u.state (ts ++ later)
+        ∙ ap (λ o. go_on o (after_step_result (turns p limit))) goes_so
+
+    goes_below : (m.steps < rules.limit) × (new.steps ≡ m.steps + 1)
+    goes_below =
+        let e : turn p rules.limit u.state (x.exchange.answers ++ []) ≡ Done (Next x.leads.state) [] =
+        ap (λ f. f []) x.leads.leaves.rest in
+        let one = laws.one_step p rules.limit u.state x.leads.state (x.exchange.answers ++ []) [] e in
+        (omega (arith, one.0, u.represents.steps), omega (arith, one.1, u.represents.steps, x.leads.represents.steps))
 
     goes_run_prefix : IsRunPrefix p input rules d t rest new
     goes_run_prefix = record {
@@ -145,15 +149,9 @@ module _ (laws : RunLaws) (p : StoredProgram) (input : List (List ℕ)) (rules :
       left_is = x.leads.lines;
       choose = x.leads.choose ∙ u.choose;
       holds = (turn_holds m new c d s t given left rest most few u goes x).1;
+      within = omega (arith, goes_below.0, goes_below.1, x.leads.represents.steps);
       reached = goes_reached;
     }
-
-    goes_below : (m.steps < rules.limit) × (new.steps ≡ m.steps + 1)
-    goes_below =
-        let e : turn p rules.limit u.state (x.exchange.answers ++ []) ≡ Done (Next x.leads.state) [] =
-        ap (λ f. f []) x.leads.leaves.rest in
-        let one = laws.one_step p rules.limit u.state x.leads.state (x.exchange.answers ++ []) [] e in
-        (omega (arith, one.0, u.represents.steps), omega (arith, one.1, u.represents.steps, x.leads.represents.steps))
 
   -- it ends
   module _ (m new : Configuration) (c d : Choices) (s t : List ℕ) (given left rest : List (List ℕ)) (most few : ℕ)
@@ -242,6 +240,52 @@ module _ (laws : RunLaws) (p : StoredProgram) (input : List (List ℕ)) (rules :
     ending_comes endings.NoAnswer w = absurd w.refuses
     ending_comes endings.BadAnswer w = ends_outside w.0 w.1
 
+  -- ---- how many commands were begun then
+
+  module _ (refuses : Pause → ℤ → Type 0) (m new : Configuration) (c d : Choices) (s t : List ℕ)
+      (given left rest : List (List ℕ)) (most few : ℕ) (u : IsRunPrefix p input rules c s left m) where
+    abbrev Comes : (State → Answers → Outcome StepResult State) → Type 0
+    Comes g = StepsTo p.lines new (devices c (text_state s) most rules.choose []) u.state rest
+        (turn p rules.limit u.state) (devices d (text_state t) few rules.choose given) g
+
+    -- with the answers that were taken, the turns come to what is left
+    turns_there : (g : State → Answers → Outcome StepResult State) (x : Comes g)
+        → turns p rules.limit (first_state p input rules.choose) d.taken
+        ≡ go_on (g x.leads.state []) (after_step_result (turns p rules.limit))
+    turns_there g x =
+        let ts = x.exchange.answers in
+        let taken : d.taken ≡ c.taken ++ (ts ++ []) =
+        ap (λ y. y.taken) x.exchanges.grown ∙ ap (λ a. c.taken ++ a) (sym (append-nil ts)) in
+        ap (turns p rules.limit (first_state p input rules.choose)) taken
+        ∙ u.reached rules.limit u.within (ts ++ []) ∙ laws.by_turn p rules.limit u.state (ts ++ [])
+        ∙ ap (λ (f : Answers → Outcome StepResult State). go_on (f []) (after_step_result (turns p rules.limit)))
+        x.leads.leaves.rest
+
+    begun_there : (g : State → Answers → Outcome StepResult State) (x : Comes g) (o : Outcome StepResult State)
+        → g x.leads.state [] ≡ o
+        → steps_of_run (go_on o (after_step_result (turns p rules.limit))) ≡ x.leads.state.steps
+        → new.steps ≡ play_steps p input rules d.taken
+    begun_there g x o is steps = sym (ap steps_of_run (turns_there g x)
+        ∙ ap (λ o. steps_of_run (go_on o (after_step_result (turns p rules.limit)))) is ∙ steps
+        ∙ x.leads.represents.steps)
+
+    ending_begun : (e : Ending)
+        → StepComes (refused_by refuses (λ _. ⊥) (Some rest)) (StepsTo p.lines new
+        (devices c (text_state s) most rules.choose []) u.state rest (turn p rules.limit u.state))
+        (devices d (text_state t) few rules.choose given) (Ok (Some e))
+        → new.steps ≡ play_steps p input rules d.taken
+    ending_begun endings.End x = begun_there (ends endings.End) x _ refl refl
+    ending_begun endings.Stop x = begun_there (ends endings.Stop) x _ refl refl
+    ending_begun endings.What x = begun_there (ends endings.What) x _ refl refl
+    ending_begun endings.How x = begun_there (ends endings.How) x _ refl refl
+    ending_begun endings.Sorry x = begun_there (ends endings.Sorry) x _ refl refl
+    ending_begun endings.Limit x = begun_there (ends endings.Limit) x _ refl refl
+    ending_begun endings.NoInput w =
+        begun_there w.left w.comes _ (w.dry w.comes.leads.state [] (w.comes.leads.lines ∙ w.refuses)) refl
+    ending_begun endings.NoAnswer w = begun_there w.left w.comes _ (w.question w.comes.leads.state).asks refl
+    ending_begun endings.BadAnswer w =
+        begun_there w.1.left w.1.comes _ (w.1.question w.1.comes.leads.state).asks refl
+
   -- ---- a step, by its result
 
   pub step_goes : (m new : Configuration) (c d : Choices) (s t : List ℕ) (given left rest : List (List ℕ))
@@ -288,6 +332,20 @@ module _ (laws : RunLaws) (p : StoredProgram) (input : List (List ℕ)) (rules :
       (devices d (text_state t) few rules.choose given) r) is (steps u.state rest
       (record { represents = u.represents; lines = u.left_is ∙ l; follow = λ none. (follows none, u.choose) })) in
       ending_comes m new c d bound s t given left rest most few u e x
+
+  -- where it ends, or asks, as many commands were begun as its play begins
+  pub step_begun : (refuses : Pause → ℤ → Type 0) (m new : Configuration) (c d : Choices) (s t : List ℕ)
+      (given left rest : List (List ℕ)) (most few : ℕ) (e : Ending) (r : Result (Option Ending) RunFault)
+      → r ≡ Ok (Some e) → IsRunPrefix p input rules c s left m → left ≡ given ++ rest → (few ≡ 0 → rest ≡ [])
+      → DoesStep (refused_by refuses (λ _. ⊥) (Some rest)) p rules.limit m new
+      (devices c (text_state s) most rules.choose []) (devices d (text_state t) few rules.choose given) r
+      → new.steps ≡ play_steps p input rules d.taken
+  step_begun refuses m new c d s t given left rest most few e r is u l follows steps =
+      let x = subst (λ r. StepComes (refused_by refuses (λ _. ⊥) (Some rest)) (StepsTo p.lines new
+      (devices c (text_state s) most rules.choose []) u.state rest (turn p rules.limit u.state))
+      (devices d (text_state t) few rules.choose given) r) is (steps u.state rest
+      (record { represents = u.represents; lines = u.left_is ∙ l; follow = λ none. (follows none, u.choose) })) in
+      ending_begun refuses m new c d s t given left rest most few u e x
 
   -- a machine that isn't spent, whose bytes and lines are in memory, has no fault except lack of memory
   module _ (refuses : Pause → ℤ → Type 0) (m new : Configuration) (c d : Choices) (s t : List ℕ)
@@ -344,7 +402,9 @@ prefix_to p input rules c d s t left rest m u taken kept shown lines = record {
     rest = λ later. ap (λ a. play p input rules (a ++ later)) (sym taken)
         ∙ u.holds.rest later;
   };
-  reached = λ limit within later. ap (λ a. play p input (limited rules limit) (a ++ later)) (sym taken)
+  within = u.within;
+  reached = λ limit within later.
+      ap (λ a. turns p limit (first_state p input rules.choose) (a ++ later)) (sym taken)
       ∙ u.reached limit within later;
 }
 

@@ -12,6 +12,7 @@ use Rattle.ptb_explore.specs.declared.report.Report.{Report}
 use Rattle.ptb_explore.specs.declared.runner.Runner.{Runner}
 use Rattle.ptb_explore.specs.Copies.{AreCopies, more_played, play_limit}
 use Rattle.ptb_explore.specs.Explorations.{IsAdded, IsPlayed, IsSameGame}
+use Rattle.ptb_explore.specs.PlannedPlays.{play_steps}
 
 -- a step leaves all but the chooser and the copies
 pub stepped : (r s : Runner) (t u : Recorder) (c d : Copies) → r ≡ record s { chooser = t; copies = c }
@@ -51,6 +52,9 @@ module _ (p q : StoredProgram) (input lines : List (List ℕ)) (rules others : R
     (same : lines ≡ input) (by : others ≡ rules) where
   pub game_is : play q lines others ≡ play p input rules
   game_is = rw (player, same, by) refl
+
+  pub steps_are : (a : Answers) → play_steps q lines others a ≡ play_steps p input rules a
+  steps_are a = rw (player, same, by) refl
 
   pub copies_stay : (t u : Answers) (w v : List ℕ) (ks js : List KeptCopy) → u ≡ t → v ≡ w → js ≡ ks
       → AreCopies p input rules t w ks → AreCopies q lines others u v js

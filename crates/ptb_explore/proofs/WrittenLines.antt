@@ -11,7 +11,7 @@ use Rattle.ptb_text.specs.declared.device_fault.DeviceFault.{DeviceFault}
 use Rattle.ptb_text.specs.declared.device_fault.DeviceFault.TheVariants as next
 use Rattle.ptb_explore.specs.declared.plan.ListingPosition.{ListingPosition}
 use Rattle.ptb_explore.specs.declared.plan.ListingPosition.TheVariants.{AtStart, AtRun, AtEnd}
-use Rattle.ptb_explore.specs.Beginnings.{Splitting, beginning_line, split_play, stopped}
+use Rattle.ptb_explore.specs.Beginnings.{IsSameSearch, Splitting, beginning_line, split_play, stopped}
 use Rattle.ptb_explore.specs.Listing.{fault_after, NextWrites, WritesList, WritesRuns}
 use Rattle.ptb_explore.specs.Plans.{IsPosition, front_at}
 use Rattle.ptb_machine.specs.RunTree.{At, Front, runs_after}
@@ -60,9 +60,9 @@ game_reads laws s = stopped_reads (split_play s) s.most (most_answers s.program 
     (laws.reads s.program s.input s.rules)
 
 -- The search is at s, and was at `first` when the first line was to be written.
-module _ (form : Form) (first s : Splitting) (same : s ≡ record first { front = s.front }) where
-  pub same_search : (n : Splitting) → n ≡ record s { front = n.front } → n ≡ record first { front = n.front }
-  same_search n h = h ∙ ap (λ (x : Splitting). record x { front = n.front }) same
+module _ (form : Form) (first s : Splitting) (same : IsSameSearch first s) where
+  pub same_search : (n : Splitting) → IsSameSearch s n → IsSameSearch first n
+  same_search n h = h ∙ ap (λ (x : Splitting). record x { front = n.front; played = n.played }) same
 
   -- what is searched stays the same
   of_first : (f : Front) (old new : Option (List ℕ)) (r : Result Bool DeviceFault)

@@ -10,7 +10,13 @@
 --     split_play s              what is searched
 --     MovesTo play f f' found   the search is at the next list, or past the last
 --     FindsBeginning play f r found     r has the answers and bounds of the next list, or there is none
-use Rattle.std.specs.Prelude.{◌≡◌, ℕ, ◌≤◌, nat_lt, List, [], ◌∷◌, ◌++◌, length, take, drop, Bool}
+--     list_steps s u            the commands that the play of a list begins
+--     list_steps_left s         those of the lists that are left
+--     PlaysList old new found   no more was played for the next list than its play begins, and nothing where none is
+--                               left
+--     PlaysLists old new        no more was played than the plays begin of the lists that are no longer left
+--     PlaysOneListMore old new  the same, or more by less than one play can add
+use Rattle.std.specs.Prelude.{◌≡◌, ℕ, ◌+◌, ◌<◌, ◌≤◌, nat_lt, List, [], ◌∷◌, ◌++◌, length, take, drop, Bool}
 use Rattle.std.specs.Prelude.{true, false, ◌⊎◌, ◌↔◌, ℤ, Contains}
 use Rattle.std.specs.List.{flat_map}
 use Rattle.ptb_text.specs.Statements.{StoredProgram}
@@ -23,6 +29,9 @@ use Rattle.ptb_explore.specs.ReportText.{list_line}
 use Rattle.ptb_answers.specs.AskedQuestions.{answers_in, bounds_in}
 use Rattle.ptb_explore.specs.declared.report.Report.{Report}
 use Rattle.ptb_explore.specs.Listing.{text}
+use Rattle.ptb_explore.specs.PlannedPlays.{play_steps}
+use Rattle.ptb_explore.specs.Explorations.{steps_of_runs}
+use Rattle.ptb_explore.specs.Copies.{play_limit}
 use Rattle.ptb_machine.specs.RunTree.{Front, Start, At, End, IsLast, IsNextRun, IsRising, IsRun, runs_after, tree}
 
 -- ---- the lists
@@ -73,9 +82,11 @@ pub record Splitting : Type 0 where
   -- the most answers that a list has
   pub most : ℕ
   pub front : Front
+  -- how many commands were played in all
+  pub played : ℕ
 
 abbrev pub IsSameSearch : Splitting → Splitting → Type 0
-IsSameSearch old new = new ≡ record old { front = new.front }
+IsSameSearch old new = new ≡ record old { front = new.front; played = new.played }
 
 abbrev pub split_play : Splitting → Answers → Outcome Finish (List ℕ)
 split_play s = play s.program s.input s.rules
@@ -88,3 +99,21 @@ abbrev pub FindsBeginning : {A W : Type 0} → (Answers → Outcome A W) → Fro
 FindsBeginning play f r true = IsNextRun play [] f (answers_in r.asked.items)
     × (bounds_in r.asked.items ≡ bounds play (answers_in r.asked.items))
 FindsBeginning play f r false = IsLast play [] f
+
+-- ---- how far lists are played
+
+abbrev pub list_steps : Splitting → Answers → ℕ
+list_steps s u = play_steps s.program s.input s.rules u
+
+abbrev pub list_steps_left : Splitting → ℕ
+list_steps_left s = steps_of_runs (list_steps s) (runs_after (stopped s.most (split_play s)) s.most [] s.front)
+
+abbrev pub PlaysList : Splitting → Splitting → Bool → Type 0
+PlaysList old new true = (u : Answers) → new.front ≡ At u → new.played ≤ old.played + list_steps old u
+PlaysList old new false = new.played ≡ old.played
+
+abbrev pub PlaysLists : Splitting → Splitting → Type 0
+PlaysLists old new = new.played + list_steps_left new ≤ old.played + list_steps_left old
+
+abbrev pub PlaysOneListMore : Splitting → Splitting → Type 0
+PlaysOneListMore old new = new.played + list_steps_left new < old.played + list_steps_left old + play_limit

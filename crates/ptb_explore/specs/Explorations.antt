@@ -18,7 +18,7 @@
 --     IsPlayed play a n            the run of these answers has so many steps
 --     IsAdded play a old new       its steps were added to those played
 --     run_steps outcome            the steps of a run
---     steps_of_runs play runs      those of some runs together
+--     steps_of_runs steps runs     those of some runs together
 --     steps_left e                 those of the runs that are left
 --     PlaysRuns old new            no more steps were played than the runs have that are no longer left
 --     PlaysOneMore old new         the same, or more by less than one play can add
@@ -181,13 +181,13 @@ run_steps (Done f rest) = f.steps
 run_steps (Asks n shown) = 0
 run_steps (Out n shown) = 0
 
-abbrev pub steps_of_runs : (Answers → Outcome Finish (List ℕ)) → List Answers → ℕ
-steps_of_runs play [] = 0
-steps_of_runs play (a ∷ list) = run_steps (play a) + steps_of_runs play list
+abbrev pub steps_of_runs : (Answers → ℕ) → List Answers → ℕ
+steps_of_runs steps [] = 0
+steps_of_runs steps (a ∷ list) = steps a + steps_of_runs steps list
 
 -- those of the runs that it has left
 abbrev pub steps_left : Exploration → ℕ
-steps_left e = steps_of_runs (play_of e) (runs_after (play_of e) (most_of e) e.under e.front)
+steps_left e = steps_of_runs (λ a. run_steps (play_of e a)) (runs_after (play_of e) (most_of e) e.under e.front)
 
 -- no more were played than the runs have that are no longer left
 abbrev pub PlaysRuns : Exploration → Exploration → Type 0

@@ -4,6 +4,7 @@
 --     NextIsOutside play c bound             the plan's next answer is outside the bound of its question
 --     PlayEnds play c bound steps shown ending    the play has this ending; the bound is that of the question where an
 --                                                 answer is outside it
+--     play_steps p input rules a             how many commands a play begins until it is over, or asks
 --     limited rules n                        the same rules with the limit n
 --     IsRunPrefix p input rules c shown left m    with what a chooser holds, a run has come to where a machine is
 use Rattle.std.specs.Prelude.{◌≡◌, ℕ, ◌≤◌, List, ◌∷◌, ◌++◌, false, Some, ℤ}
@@ -12,11 +13,12 @@ use Rattle.ptb_answers.specs.Outcome.{Answers, Outcome, Done, Asks, Out, bounds,
 use Rattle.ptb_answers.specs.Choices.{Choices}
 use Rattle.ptb_command.specs.declared.ending.Ending.{Ending}
 use Rattle.ptb_command.specs.declared.ending.Ending.TheVariants as endings
-use Rattle.ptb_command.specs.State.{State}
+use Rattle.ptb_command.specs.State.{State, first_state}
 use Rattle.ptb_command.specs.Configuration.{Configuration}
 use Rattle.ptb_command.specs.Representation.{Represents}
 use Rattle.ptb_answers.specs.declared.rules.Rules.{Rules}
-use Rattle.ptb_machine.specs.Play.{Finish, play, run_from}
+use Rattle.ptb_machine.specs.Play.{Finish, play, run_from, turns}
+use Rattle.ptb_machine.specs.RunEffects.{steps_of_run}
 
 module _ {A W : Type 0} (play : Answers → Outcome A W) where
   -- the bounds of the answers that were taken are kept, and what is left does what play does after them
@@ -42,6 +44,12 @@ PlayEnds play c bound steps shown endings.BadAnswer = NextIsOutside play c bound
 PlayEnds play c bound steps shown ending =
     Holds play c (λ later. Done (record { ending = ending; steps = steps; shown = shown }) later)
 
+-- ---- how far it is played
+
+-- a command that asks is begun
+abbrev pub play_steps : StoredProgram → List (List ℕ) → Rules → Answers → ℕ
+play_steps p input rules a = steps_of_run (turns p rules.limit (first_state p input rules.choose) a)
+
 -- ---- a run that is underway
 
 abbrev pub limited : Rules → ℕ → Rules
@@ -56,7 +64,8 @@ pub record IsRunPrefix (p : StoredProgram) (input : List (List ℕ)) (rules : Ru
   pub left_is : state.lines ≡ left
   pub choose : state.choose ≡ rules.choose
   pub holds : Holds (play p input rules) c (run_from p rules state)
-  -- it is so under each limit that isn't less than the steps
+  pub within : state.steps ≤ rules.limit
+  -- under each limit that isn't less than the steps, these are the turns to the state, and then those after it
   pub reached :
       (limit : ℕ) → state.steps ≤ limit → (later : Answers)
-      → play p input (limited rules limit) (c.taken ++ later) ≡ run_from p (limited rules limit) state later
+      → turns p limit (first_state p input rules.choose) (c.taken ++ later) ≡ turns p limit state later

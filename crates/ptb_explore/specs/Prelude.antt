@@ -14,7 +14,7 @@ pub use Rattle.ptb_text.specs.Device.{HasFailed, TakesSome}
 pub use Rattle.ptb_text.specs.Statements.{StoredProgram}
 pub use Rattle.ptb_text.specs.Streams.{WritesText, writes_of}
 pub use Rattle.ptb_explore.specs.Beginnings.{beginning_line, split_play, stopped, FindsBeginning, IsSameSearch, MovesTo}
-pub use Rattle.ptb_explore.specs.Beginnings.{BeginningLaws, Splitting}
+pub use Rattle.ptb_explore.specs.Beginnings.{BeginningLaws, PlaysList, PlaysLists, PlaysOneListMore, Splitting}
 pub use Rattle.ptb_explore.specs.ReportHeaders.{begun, marked_of, marked_items, AreEnds, BeginsWith}
 pub use Rattle.ptb_explore.specs.Copies.{Agrees, AreCopies, PlaysOn, kept_runs, AreBeginnings, more_played, play_limit}
 pub use Rattle.ptb_explore.specs.Copies.{WentBack, last_steps, ArePlaces}
@@ -27,7 +27,7 @@ pub use Rattle.ptb_explore.specs.Listing.{FailsToWrite, FailsOnlyToWrite, NextWr
 pub use Rattle.ptb_explore.specs.Listing.{FailsAfterSome, FailsOnlyAfterSome}
 pub use Rattle.ptb_explore.specs.MarkedRuns.{states_bounds, IsMarkedRun, IsMarkedBeginning}
 pub use Rattle.ptb_explore.specs.Mismatch.{Explains, IsItemMismatch, IsRunMismatch, MismatchLaws, TakesItems}
-pub use Rattle.ptb_explore.specs.PlannedPlays.{PlayEnds, IsRunPrefix}
+pub use Rattle.ptb_explore.specs.PlannedPlays.{PlayEnds, IsRunPrefix, play_steps}
 pub use Rattle.ptb_explore.specs.Plans.{PlanEndsWith, IsFresh, IsPosition, front_at, IsTaken, IsTakenAlone, IsLastBelow}
 pub use Rattle.ptb_explore.specs.Plans.{AreAtBounds, HasPlan, PlansNext}
 pub use Rattle.ptb_explore.specs.Recorders.{recorded, recorder_choices}

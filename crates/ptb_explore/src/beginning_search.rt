@@ -1,9 +1,10 @@
 // This file plays a plan up to the questions of a list that splits runs, by `find_beginning`.
 
-ghost use Rattle.std.specs.Prelude.{◌≡◌, ◌≤◌, Ok, [], true, false, length, IfOk, OnOk, OnErr, IsTrue};
-ghost use Rattle.ptb_explore.specs.Prelude.{is_open, answers_in, bounds_in, recorded, stopped, FindsBeginning};
-ghost use Rattle.ptb_explore.specs.Prelude.{Resumes, PlaysOn, kept_runs, AreCopiesAt, HasRunCopies, IsSameGame};
-ghost use Rattle.ptb_explore.specs.Prelude.{NextPlays, game_of, PlanEndsWith, IsPosition, front_at, IsLast};
+ghost use Rattle.std.specs.Prelude.{◌≡◌, ◌+◌, ◌<◌, ◌≤◌, Ok, [], true, false, length, IfOk, OnOk, OnErr, IsTrue};
+ghost use Rattle.ptb_explore.specs.Prelude.{is_open, answers_in, bounds_in, recorded, stopped, FindsBeginning, Resumes};
+ghost use Rattle.ptb_explore.specs.Prelude.{PlaysOn, kept_runs, AreCopiesAt, HasRunCopies, IsSameGame, NextPlays};
+ghost use Rattle.ptb_explore.specs.Prelude.{game_of, PlanEndsWith, IsPosition, front_at, IsLast, play_steps};
+ghost use Rattle.ptb_explore.specs.Prelude.{play_limit};
 
 use crate::plan::{ListingPosition, plan_next};
 use crate::runner::Runner;
@@ -25,8 +26,12 @@ fn play_beginning(runner: &mut Runner, common: usize, most: usize) -> Result<(),
         (bounds_in runner.new.report.asked.items) tt) }
     ensures asked { OnErr result (runner.new.report.asked.items ≡ runner.old.report.asked.items) }
     ensures copies { OnOk result (HasRunCopies runner.old runner.new) }
+    ensures begun { OnOk result (runner.new.report.steps ≡ play_steps runner.old.player
+        runner.old.lines.now runner.old.rules (answers_in runner.new.report.asked.items)) }
     ensures played { OnOk result (PlaysOn common runner.old.copies.kept.items runner.old.played
         runner.new.report.steps runner.new.played) }
+    ensures rises { runner.old.played ≤ runner.new.played }
+    ensures once { runner.new.played < runner.old.played + play_limit }
 {
     run_laws();
     runner.chooser.stop_after(most)?;
@@ -54,9 +59,14 @@ pub(crate) fn find_beginning(
     ensures ended { IsLast (stopped most (game_of runner.old)) []
         (front_at position (answers_in runner.old.report.asked.items)) → result ≡ Ok false }
     ensures copies { IfOk result (λ found. IsTrue found → HasRunCopies runner.old runner.new) }
+    ensures begun { IfOk result (λ found. IsTrue found → runner.new.report.steps
+        ≡ play_steps runner.old.player runner.old.lines.now runner.old.rules
+        (answers_in runner.new.report.asked.items)) }
     ensures played { IfOk result (NextPlays
         (kept_runs (answers_in runner.old.report.asked.items) runner.old.copies.kept.items)
         runner.old.played runner.new.report runner.new.played) }
+    ensures rises { runner.old.played ≤ runner.new.played }
+    ensures once { runner.new.played < runner.old.played + play_limit }
 {
     run_laws();
     match plan_next(position, &[], &runner.report.asked, &mut runner.chooser)? {

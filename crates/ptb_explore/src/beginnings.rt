@@ -1,10 +1,10 @@
 // This file writes the lists that split all runs of a program, by `write_beginnings`.
 
-ghost use Rattle.std.specs.Prelude.{◌≡◌, Ok, None, [], false, IfOk, OnErr};
-ghost use Rattle.ptb_explore.specs.Prelude.{Answers, bounds_of, answers_in, bounds_in, beginning_line};
-ghost use Rattle.ptb_explore.specs.Prelude.{split_play, stopped, IsSameSearch, MovesTo, AreCopiesAt, game_of};
+ghost use Rattle.std.specs.Prelude.{◌≡◌, ◌+◌, ◌<◌, ◌≤◌, ℕ, Ok, None, [], false, IfOk, OnErr, IsErrOf};
+ghost use Rattle.ptb_explore.specs.Prelude.{Answers, bounds_of, answers_in, bounds_in, beginning_line, split_play};
+ghost use Rattle.ptb_explore.specs.Prelude.{stopped, IsSameSearch, AreCopiesAt, game_of, PlaysLists, PlaysOneListMore};
 ghost use Rattle.ptb_explore.specs.Prelude.{FailsToWrite, FailsOnlyToWrite, NextWrites, WritesRuns, IsPosition};
-ghost use Rattle.ptb_explore.specs.Prelude.{front_at, At, IsLast, Start, runs_left, FailsAfterSome, FailsOnlyAfterSome};
+ghost use Rattle.ptb_explore.specs.Prelude.{front_at, At, runs_left, FailsAfterSome, FailsOnlyAfterSome};
 
 use crate::beginning_search::find_beginning;
 use crate::fault::ExploreFault;
@@ -52,6 +52,7 @@ impl<'a> Model for Beginnings<'a> {
       rules = b.runner.rules;
       most = b.most;
       front = front_at b.position (answers_in b.runner.report.asked.items);
+      played = b.runner.played;
     } };
 
     ghost invariant = { λ b. IsPosition (stopped b.most (game_of b.runner)) []
@@ -61,6 +62,8 @@ impl<'a> Model for Beginnings<'a> {
 }
 
 impl<'a> Beginnings<'a> {
+    ghost use Rattle.ptb_explore.specs.Prelude.{MovesTo, PlaysList, play_limit, IsLast, Start};
+
     /// A search for the lists of at most `most` answers, before the first of them.
     ///
     /// # Errors
@@ -79,6 +82,7 @@ impl<'a> Beginnings<'a> {
           rules = rules;
           most = most;
           front = Start;
+          played = 0;
         }) }
     {
         run_laws();
@@ -97,14 +101,21 @@ impl<'a> Beginnings<'a> {
     /// Where a growth was refused memory, never where no list is left. The search is where it
     /// was then, and a further call looks for that list once more.
     ///
+    /// What [`played`](Beginnings::played) gives doesn't fall, and rises by no more than the commands
+    /// that the play of the list begins, to its end or to the question that follows the list; after
+    /// refused memory by less than 4,294,967,296.
+    ///
     /// Public so that tests can try it.
     pub fn next(&mut self) -> Result<bool, AllocError>
-        ensures same { self.new ≡ record self.old { front = self.new.front } }
+        ensures same { IsSameSearch self.old self.new }
         ensures next { IfOk result (MovesTo (stopped self.old.most (split_play self.old))
             self.old.front self.new.front) }
         ensures unmoved { OnErr result (self.new.front ≡ self.old.front) }
         ensures ended { IsLast (stopped self.old.most (split_play self.old)) [] self.old.front
             → result ≡ Ok false }
+        ensures played { IfOk result (PlaysList self.old self.new) }
+        ensures rises { self.old.played ≤ self.new.played }
+        ensures once { self.new.played < self.old.played + play_limit }
     {
         run_laws();
         let found = find_beginning(&mut self.runner, self.most, self.position);
@@ -123,6 +134,16 @@ impl<'a> Beginnings<'a> {
                 Err(fault)
             }
         }
+    }
+
+    /// How many commands were played for the lists so far; `u64::MAX` where there were more. A call of
+    /// [`next`](Beginnings::next) that is refused memory adds fewer than 4,294,967,296.
+    ///
+    /// For users of the library: the program doesn't call it.
+    pub fn played(&self) -> u64
+        ensures { result ≡ self.now.played }
+    {
+        self.runner.played
     }
 
     /// The answers of the list at which the search is, each with its bound.
@@ -163,12 +184,16 @@ fn write_next_line<W: Write>(
     writer: &mut W,
 ) -> Result<bool, DeviceFault>
     ensures same { IsSameSearch beginnings.old beginnings.new }
+    ensures rises { beginnings.old.played ≤ beginnings.new.played }
+    ensures played { ¬ IsErrOf result DeviceFault.Memory → PlaysLists beginnings.old beginnings.new }
+    ensures once { PlaysOneListMore beginnings.old beginnings.new }
     ensures writes { NextWrites (stopped beginnings.old.most (split_play beginnings.old)) []
         (beginning_line form (split_play beginnings.old)) beginnings.old.front beginnings.new.front
         (W.contents writer.old) (W.contents writer.new) result }
     ensures failed { FailsToWrite result (W.failures writer.old) (W.failures writer.new) }
     ensures unfailed { FailsOnlyToWrite result (W.failures writer.old) (W.failures writer.new) }
 {
+    run_laws();
     match beginnings.next() {
         Err(_) => Err(DeviceFault::Memory),
         Ok(false) => Ok(false),
@@ -189,13 +214,19 @@ fn write_next_line<W: Write>(
 /// [`ExploreFault::Memory`] where a growth was refused memory, [`ExploreFault::Write`] where the
 /// writer failed, each with the number of complete lines that were written. The search is then
 /// at the last of these lists, or at the one whose line was begun. Both come only while a line was
-/// still to be written.
+/// still to be written. The commands that were played count in [`played`](Beginnings::played): at
+/// most those that the plays of the lists begin that were written, or whose line was begun, and those
+/// of one play that was refused memory.
 pub fn write_beginnings<W: Write>(
     beginnings: &mut Beginnings,
     form: Form,
     writer: &mut W,
 ) -> Result<u64, ExploreFault>
     ensures same { IsSameSearch beginnings.old beginnings.new }
+    ensures rises { beginnings.old.played ≤ beginnings.new.played }
+    ensures played { ((n : ℕ) → ¬ IsErrOf result (ExploreFault.Memory n))
+        → PlaysLists beginnings.old beginnings.new }
+    ensures once { PlaysOneListMore beginnings.old beginnings.new }
     ensures writes { WritesRuns (stopped beginnings.old.most (split_play beginnings.old)) []
         (beginning_line form (split_play beginnings.old))
         (runs_left (stopped beginnings.old.most (split_play beginnings.old)) beginnings.old.most []

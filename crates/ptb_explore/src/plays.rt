@@ -2,7 +2,7 @@
 
 ghost use Rattle.std.specs.Prelude.{◌≡◌, ◌-◌, ◌<◌, ◌+◌, ◌≤◌, [], IfOk, OnOk, OnErr};
 ghost use Rattle.ptb_explore.specs.Prelude.{play, AreCopies, more_played, play_limit, game_of, IsSameGame, IsFresh};
-ghost use Rattle.ptb_explore.specs.Prelude.{CanPlayOn, PlayEnds, recorder_choices, recorded};
+ghost use Rattle.ptb_explore.specs.Prelude.{CanPlayOn, PlayEnds, play_steps, recorder_choices, recorded};
 
 use crate::copies::RunProgress;
 use crate::runner::Runner;
@@ -14,7 +14,7 @@ impl<'a> Runner<'a> {
     /// them. Copies of the machine are kept where answers were taken.
     ///
     /// The ending is `BadAnswer` where an answer of the plan is outside its bound. It is never
-    /// `NoAnswer`.
+    /// `NoAnswer`. The command that asked is the last one that was begun then.
     ///
     /// # Errors
     ///
@@ -34,6 +34,8 @@ impl<'a> Runner<'a> {
             ((recorder_choices self.new.chooser).plan ≡ (recorder_choices self.old.chooser).plan) }
         ensures ends { IfOk result (PlayEnds (play self.old.player source.old.lines self.old.rules)
             (recorder_choices self.new.chooser) self.new.chooser.refused_bound machine.new.steps screen.new) }
+        ensures begun { OnOk result (machine.new.steps ≡ play_steps self.old.player source.old.lines
+            self.old.rules (recorder_choices self.new.chooser).taken) }
         ensures copies { OnOk result (AreCopies self.old.player source.old.lines self.old.rules
             (recorder_choices self.new.chooser).taken screen.new self.new.copies.kept.items) }
     {
@@ -84,6 +86,8 @@ impl<'a> Runner<'a> {
             ((recorder_choices self.new.chooser).plan ≡ (recorder_choices self.old.chooser).plan) }
         ensures ends { IfOk result (PlayEnds (play self.old.player source.old.lines self.old.rules)
             (recorder_choices self.new.chooser) self.new.chooser.refused_bound machine.new.steps screen.new) }
+        ensures begun { OnOk result (machine.new.steps ≡ play_steps self.old.player source.old.lines
+            self.old.rules (recorder_choices self.new.chooser).taken) }
         ensures copies { OnOk result (AreCopies self.old.player source.old.lines self.old.rules
             (recorder_choices self.new.chooser).taken screen.new self.new.copies.kept.items) }
         ensures played { self.new.played

@@ -3,7 +3,7 @@
 ghost use Rattle.std.specs.Prelude.{◌≡◌, ◌+◌, ◌<◌, ◌≤◌, false, [], length, drop, IfOk, OnOk};
 ghost use Rattle.ptb_explore.specs.Prelude.{play, answers_in, bounds_in, Agrees, AreCopies, PlaysOn, WentBack};
 ghost use Rattle.ptb_explore.specs.Prelude.{last_steps, play_limit, game_of, IsSameGame, Resumes, IsRunPrefix};
-ghost use Rattle.ptb_explore.specs.Prelude.{PlayEnds, IsFresh, recorder_choices, recorded};
+ghost use Rattle.ptb_explore.specs.Prelude.{PlayEnds, IsFresh, play_steps, recorder_choices, recorded};
 
 use crate::copies::Copies;
 use crate::recorder::Recorder;
@@ -133,6 +133,8 @@ impl<'a> Runner<'a> {
         ensures ends { OnOk result (PlayEnds (game_of self.old) (recorder_choices self.new.chooser)
             self.new.chooser.refused_bound
             self.new.report.steps self.new.report.transcript.items self.new.report.ending) }
+        ensures begun { OnOk result (self.new.report.steps ≡ play_steps self.old.player
+            self.old.lines.now self.old.rules (recorder_choices self.new.chooser).taken) }
         ensures asked { self.new.report.asked.items ≡ self.old.report.asked.items }
         ensures copies { OnOk result (AreCopies self.old.player self.old.lines.now self.old.rules
             (recorder_choices self.new.chooser).taken self.new.report.transcript.items

@@ -47,10 +47,10 @@ all_left (x ∷ xs) = ap (λ s. x ∷ s) (all_left xs)
 
 -- a number by another name
 begun_with : (p : StoredProgram) (input : List (List ℕ)) (rules : Rules) (n m : ℕ) → m ≡ n → (s : Splitting)
-    → s ≡ record { program = p; input = input; rules = rules; most = m; front = Start }
-    → s ≡ record { program = p; input = input; rules = rules; most = n; front = Start }
+    → s ≡ record { program = p; input = input; rules = rules; most = m; front = Start; played = 0 }
+    → s ≡ record { program = p; input = input; rules = rules; most = n; front = Start; played = 0 }
 begun_with p input rules n m same s h =
-    h ∙ ap (λ (k : ℕ). record { program = p; input = input; rules = rules; most = k; front = Start }) same
+    h ∙ ap (λ (k : ℕ). record { program = p; input = input; rules = rules; most = k; front = Start; played = 0 }) same
 
 module _ (p : StoredProgram) (request : Request) (n : ℕ) (form : Form) (input : List (List ℕ))
     (old new : Option (List ℕ)) where
@@ -127,9 +127,9 @@ module _ (request : Request) (p : StoredProgram) (memory : p.memory ≡ request.
 
   -- a search continued from its front, and is dropped
   module _ (input : List (List ℕ)) (s : Splitting) (f : Front) (m : ℕ) (is : m ≡ n)
-      (begun : s ≡ record { program = p; input = input; rules = request.rules; most = m; front = Start })
+      (begun : s ≡ record { program = p; input = input; rules = request.rules; most = m; front = Start; played = 0 })
       (out : Output) where
-    same : s ≡ record { program = p; input = input; rules = request.rules; most = n; front = Start }
+    same : s ≡ record { program = p; input = input; rules = request.rules; most = n; front = Start; played = 0 }
     same = begun_with p input request.rules n m is s begun
 
     abbrev WritesFrom : Splitting → Result ℕ ExploreFault → Type 0

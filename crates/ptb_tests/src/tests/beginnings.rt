@@ -3,11 +3,12 @@
 
 use crate::tests::explorers::BRANCHES;
 use crate::tests::shared::{
-    are_asked, are_viewed, expect_rows, expect_same, loaded, plain_rules, table,
+    Row, are_asked, are_viewed, expect_rows, expect_same, loaded, plain_rules, table,
 };
 use crate::tests::written_rows::{Source, Writing, Written, expect_begun};
 use ptb_explore::{Beginnings, ExploreFault, Form, write_beginnings};
 use ptb_text::Device;
+use std::alloc::{AllocError, Global};
 use std::test::Fail;
 
 // The lists of a program, of so many answers at most.
@@ -88,6 +89,49 @@ fn one_list_after_the_other(rt: HostRuntime) -> Result<(), Fail> {
     let none = (is_none_left(&mut lists), is_none_left(&mut lists));
     expect_same(&rt, "no list is left", none, (true, true));
     Ok(())
+}
+
+// A program, the most answers of its lists, and how many commands were played once each of them is
+// found.
+struct Played(&'static str, usize, &'static [u64]);
+
+// Whether so many commands were played after each list, and no more to find that none is left.
+fn are_played(lists: &mut Beginnings, counts: &[u64]) -> bool {
+    let mut last = 0;
+    for &count in counts {
+        if !matches!(lists.next(), Ok(true)) || lists.played() != count {
+            return false;
+        }
+        last = count;
+    }
+    is_none_left(lists) && lists.played() == last
+}
+
+impl Row<Global> for Played {
+    fn holds(&self, alloc: &Global) -> bool {
+        let Played(text, most, counts) = *self;
+        let Ok((program, lines)) = loaded(*alloc, text, "") else {
+            return false;
+        };
+        match Beginnings::start(*alloc, &program, &lines, plain_rules(10000), most) {
+            Ok(mut lists) => are_played(&mut lists, counts),
+            Err(AllocError) => false,
+        }
+    }
+}
+
+const PLAYED: &[Played] = table! { Played:
+    // a play stops at the question after its first answers, whose command is begun; what follows is never played
+    ("10 A=RND(2)\n20 B=RND(3)\n30 GOTO 30", 1, &[2, 4]),
+    // the commands that a list has in common with the one before are not played again
+    ("10 A=RND(2)\n20 B=RND(3)\n30 C=RND(4)\n40 GOTO 40", 2, &[3, 5, 7, 10, 12, 14]),
+    // a run of fewer answers is played to its end
+    ("10 A=RND(2);IF A=2 B=RND(2)", 64, &[2, 5, 7]),
+};
+
+#[test]
+fn lists_are_played_to_their_last_question(rt: HostRuntime) {
+    expect_rows(&rt, "played", &rt.alloc(), PLAYED);
 }
 
 // Passes whichever of its allocations is refused: the lines that are counted were written, and no

@@ -1,5 +1,5 @@
 -- This file answers that the list of the next plan is the next list.
-use Rattle.std.proofs.Common.{◌≡◌, ◌∙◌, [], Some, None, refl, take}
+use Rattle.std.proofs.Common.{◌≡◌, ◌∙◌, [], Some, None, arith, refl, take}
 use Rattle.std.proofs.lemmas.Result.{IfOk-from_err}
 use Rattle.ptb_machine.specs.Play.{play}
 use Rattle.ptb_machine.specs.Questions.{most_answers}
@@ -119,6 +119,9 @@ returns-in_ok-play_beginning-in-Some-clause-played c =
 pub returns-in_ok-play_beginning-in-Some-clause-copies : goal.returns-in_ok-play_beginning-in-Some-clause-copies
 returns-in_ok-play_beginning-in-Some-clause-copies c = λ _. c.in_ok-play_beginning-in-Some.ensures.copies
 
+pub returns-in_ok-play_beginning-in-Some-clause-begun : goal.returns-in_ok-play_beginning-in-Some-clause-begun
+returns-in_ok-play_beginning-in-Some-clause-begun c = λ _. c.in_ok-play_beginning-in-Some.ensures.begun
+
 pub returns-in_err-plan_next : goal.returns-in_err-plan_next
 returns-in_err-plan_next c = record {
   same = refl;
@@ -138,7 +141,10 @@ returns-in_err-plan_next c = record {
       plan_left (stopped c.args.most game) c.args.most (stopped_reads game c.args.most most reads) []
       (front_at c.args.position (answers_in report.asked.items)) has.0 next last;
   copies = IfOk-from_err _ _ c.from_residual.ensures.0;
+  begun = IfOk-from_err _ _ c.from_residual.ensures.0;
   played = IfOk-from_err _ _ c.from_residual.ensures.0;
+  rises = omega arith;
+  once = omega arith;
 }
 
 pub returns-in_err-play_beginning-in-Some : goal.returns-in_err-play_beginning-in-Some
@@ -148,5 +154,8 @@ returns-in_err-play_beginning-in-Some c = record {
   asked = on_err_always _ c.in_err-play_beginning-in-Some.ensures.asked;
   ended = λ last. none_last (goal.at.returns-in_err-play_beginning-in-Some c).In-Some last;
   copies = IfOk-from_err _ _ c.from_residual-in_err-play_beginning-in-Some.ensures.0;
+  begun = IfOk-from_err _ _ c.from_residual-in_err-play_beginning-in-Some.ensures.0;
   played = IfOk-from_err _ _ c.from_residual-in_err-play_beginning-in-Some.ensures.0;
+  rises = c.play_beginning.ensures.rises;
+  once = c.play_beginning.ensures.once;
 }

@@ -1,11 +1,12 @@
 -- This file answers that a plan that stops is played to the next list, and that the copies that are kept are of its
 -- play.
-use Rattle.std.proofs.Common.{◌∙◌, ◌≤◌, arith, ap, refl, vec_len}
+use Rattle.std.proofs.Common.{◌∙◌, ◌≤◌, arith, ap, refl, sym, vec_len}
 use Rattle.std.proofs.lemmas.Result.{IfOk-from_err}
 use Rattle.ptb_machine.specs.Play.{play}
 use Rattle.ptb_machine.specs.Questions.{most_answers}
 use Rattle.ptb_answers.specs.AskedQuestions.{answers_in, bounds_in}
 use Rattle.ptb_explore.specs.Explorations.{game_of}
+use Rattle.ptb_explore.specs.PlannedPlays.{play_steps}
 use Rattle.ptb_explore.specs.Recorders.{recorder_choices, recorded}
 use Rattle.ptb_explore.proofs.WrittenTexts.{on_err_always}
 use Rattle.ptb_explore.proofs.KeptCopies.{kept_same}
@@ -58,13 +59,23 @@ returns-clause-copies c =
     (ap answers_in (c.exchange_answers.ensures.asked ∙ c.keep_given.ensures.asked) ∙ given_answers new.chooser) refl
     refl c.in_ok-play_plan.ensures.copies
 
+pub returns-clause-begun : goal.returns-clause-begun
+returns-clause-begun c =
+    let old = c.args.runner.now in
+    let taken = ap answers_in (c.exchange_answers.ensures.asked ∙ c.keep_given.ensures.asked)
+    ∙ given_answers c.play_plan.new.self.chooser in
+    c.in_ok-play_plan.ensures.begun ∙ ap (play_steps old.player old.lines.now old.rules) (sym taken)
+
 pub returns-in_err-stop_after : goal.returns-in_err-stop_after
 returns-in_err-stop_after c = record {
   same = refl;
   ends = IfOk-from_err _ _ c.from_residual.ensures.0;
   asked = on_err_always _ refl;
   copies = IfOk-from_err _ _ c.from_residual.ensures.0;
+  begun = IfOk-from_err _ _ c.from_residual.ensures.0;
   played = IfOk-from_err _ _ c.from_residual.ensures.0;
+  rises = omega arith;
+  once = omega arith;
 }
 
 pub returns-in_err-play_plan : goal.returns-in_err-play_plan
@@ -73,7 +84,10 @@ returns-in_err-play_plan c = record {
   ends = IfOk-from_err _ _ c.from_residual-in_err-play_plan.ensures.0;
   asked = on_err_always _ c.play_plan.ensures.asked;
   copies = IfOk-from_err _ _ c.from_residual-in_err-play_plan.ensures.0;
+  begun = IfOk-from_err _ _ c.from_residual-in_err-play_plan.ensures.0;
   played = IfOk-from_err _ _ c.from_residual-in_err-play_plan.ensures.0;
+  rises = c.play_plan.ensures.rises;
+  once = c.play_plan.ensures.once;
 }
 
 pub returns-clause-same : goal.returns-clause-same

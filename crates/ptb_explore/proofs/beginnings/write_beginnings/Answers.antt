@@ -1,7 +1,10 @@
 -- This file answers that the lines that are written are those of the lists that were left, in their order.
 use Rattle.std.proofs.Common.{rules, ◌∙◌, []}
+use Rattle.std.proofs.Math.Nat.{le_trans}
 use Rattle.ptb_explore.specs.Beginnings.{beginning_line, split_play}
 use Rattle.ptb_explore.proofs.Exits.{ok_no_err}
+use Rattle.ptb_explore.proofs.PlayedLists.{list_once_then, lists_then}
+use Rattle.ptb_explore.proofs.PlayedRuns.{ended_played}
 use Rattle.ptb_text.proofs.PublicLemmas.{failed_after}
 use Rattle.ptb_explore.proofs.WrittenLines.{game_of, game_reads, line_ends, no_line}
 use Rattle.ptb_explore.proofs.WrittenLines.{one_line_fewer, one_line_more, same_search}
@@ -21,6 +24,9 @@ pub loop-fault-preserved : goal.loop-fault-preserved
 loop-fault-preserved g c = record {
   same = same_search c.args.form c.args.beginnings.now c.loop-fault.beginnings c.loop-fault.invariant.same _
       c.in-Ok-true.ensures.same;
+  rises = le_trans c.loop-fault.invariant.rises c.in-Ok-true.ensures.rises;
+  played = lists_then c.args.beginnings.now c.loop-fault.beginnings c.write_next_line.new.beginnings
+      c.loop-fault.invariant.played (c.in-Ok-true.ensures.played (λ fault. ok_no_err fault));
   unfailed = c.in-Ok-true.ensures.unfailed (λ fault. ok_no_err fault) ∙ c.loop-fault.invariant.unfailed;
   progress = one_line_more c.args.form c.args.beginnings.now c.loop-fault.beginnings c.loop-fault.invariant.same
       (game_reads c.run_laws.ensures c.args.beginnings.now) _ _ _ _ c.loop-fault.invariant.progress
@@ -32,6 +38,11 @@ pub returns-in-Ok-false : goal.returns-in-Ok-false
 returns-in-Ok-false g c = record {
   same = same_search c.args.form c.args.beginnings.now c.loop-fault.beginnings c.loop-fault.invariant.same _
       c.in-Ok-false.ensures.same;
+  rises = le_trans c.loop-fault.invariant.rises c.in-Ok-false.ensures.rises;
+  played = λ _. lists_then c.args.beginnings.now c.loop-fault.beginnings c.write_next_line.new.beginnings
+      c.loop-fault.invariant.played (c.in-Ok-false.ensures.played (λ fault. ok_no_err fault));
+  once = list_once_then c.args.beginnings.now c.loop-fault.beginnings c.write_next_line.new.beginnings
+      c.loop-fault.invariant.played c.in-Ok-false.ensures.once;
   writes = no_line c.args.form c.args.beginnings.now c.loop-fault.beginnings c.loop-fault.invariant.same
       (game_reads c.run_laws.ensures c.args.beginnings.now) _ _ _ _ c.loop-fault.invariant.progress
       c.write_next_line.new.beginnings.front _ _ c.in-Ok-false.field-0-test c.in-Ok-false.ensures.writes;
@@ -47,6 +58,11 @@ returns-in-Err g c =
     (g.W.Write.contents c.write_next_line.new.writer) c.in-Err.fault c.in-Err.ensures.writes in
     rw c.after.ensures (record {
       same = same_search c.args.form c.args.beginnings.now s c.loop-fault.invariant.same _ c.in-Err.ensures.same;
+      rises = le_trans c.loop-fault.invariant.rises c.in-Err.ensures.rises;
+      played = ended_played c.in-Err.fault kind (λ none. lists_then c.args.beginnings.now s
+          c.write_next_line.new.beginnings c.loop-fault.invariant.played (c.in-Err.ensures.played none)) _;
+      once = list_once_then c.args.beginnings.now s c.write_next_line.new.beginnings c.loop-fault.invariant.played
+          c.in-Err.ensures.once;
       writes = line_ends c.args.form c.args.beginnings.now s c.loop-fault.invariant.same
           (game_reads c.run_laws.ensures c.args.beginnings.now) _ _ _ _ c.loop-fault.invariant.progress
           c.write_next_line.new.beginnings.front _ c.in-Err.fault c.in-Err.ensures.writes;

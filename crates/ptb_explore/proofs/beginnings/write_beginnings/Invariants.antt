@@ -1,6 +1,6 @@
 -- This file says what was written after some of the lines.
-use Rattle.std.proofs.Common.{◌≡◌, length, [], None}
-use Rattle.ptb_explore.specs.Beginnings.{beginning_line, split_play}
+use Rattle.std.proofs.Common.{◌≡◌, ◌≤◌, length, [], None}
+use Rattle.ptb_explore.specs.Beginnings.{IsSameSearch, PlaysLists, beginning_line, split_play}
 use Rattle.ptb_machine.specs.RunTree.{runs_after, runs_left}
 use Rattle.ptb_explore.proofs.WrittenLines.{game_of}
 use Rattle.ptb_explore.proofs.Progress.{ListingProgress}
@@ -10,7 +10,9 @@ abbrev pub invariant-loop-fault : goal.invariant-loop-fault
 invariant-loop-fault g l =
     let first = l.fn.beginnings in
     record {
-      same : l.beginnings ≡ record first { front = l.beginnings.front };
+      same : IsSameSearch first l.beginnings;
+      rises : first.played ≤ l.beginnings.played;
+      played : PlaysLists first l.beginnings;
       unfailed : g.W.Write.failures l.writer ≡ g.W.Write.failures l.fn.writer;
       progress : ListingProgress (game_of first) first.most [] (beginning_line l.fn.form (split_play first))
           (runs_left (game_of first) first.most [] first.front None) first.front l.beginnings.front None

@@ -14,4 +14,9 @@ invariant_of-result c =
     )
 
 pub returns : goal.returns
-returns c = rw (c.in_ok-new.ensures.program, c.in_ok-new.ensures.lines, c.in_ok-new.ensures.rules) refl
+returns c = rw (
+  c.in_ok-new.ensures.program,
+  c.in_ok-new.ensures.lines,
+  c.in_ok-new.ensures.rules,
+  c.in_ok-new.ensures.played,
+) refl

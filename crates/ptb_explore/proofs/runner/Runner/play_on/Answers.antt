@@ -7,12 +7,12 @@ use Rattle.ptb_machine.specs.Play.{play}
 use Rattle.ptb_answers.specs.Outcome.{Answers}
 use Rattle.ptb_explore.proofs.RecordedAnswers.{given_len, recorded_len}
 use Rattle.ptb_explore.specs.Copies.{AreTakenBy, IsCopyAt, taken_choices}
-use Rattle.ptb_explore.specs.PlannedPlays.{IsRunPrefix, PlayEnds}
+use Rattle.ptb_explore.specs.PlannedPlays.{IsRunPrefix, PlayEnds, play_steps}
 use Rattle.ptb_explore.specs.Recorders.{RefusedByPlan, recorder_choices, given_bounds, recorded}
 use Rattle.ptb_explore.specs.declared.recorder.Recorder.{Recorder}
 use Rattle.ptb_explore.proofs.Limits.{taken_by}
 use Rattle.ptb_explore.proofs.KeptCopies.{kept_longer, kept_more, kept_same}
-use Rattle.ptb_explore.proofs.RunPrefix.{advanced, step_goes, step_ends, step_extends, prefix_to}
+use Rattle.ptb_explore.proofs.RunPrefix.{advanced, step_begun, step_goes, step_ends, step_extends, prefix_to}
 use Rattle.ptb_explore.proofs.RunPrefix.{taken_within, none_follow, only_memory}
 use Rattle.ptb_explore.proofs.Runners.{stepped}
 use Rattle.ptb_explore.proofs.runner.Runner.play_on.Goals as goal
@@ -47,6 +47,21 @@ ended c u =
     let turn = c.step.ensures.turn in
     step_ends c.run_laws.ensures c.loop-ending.self.player c.args.source.now.lines c.args.self.now.rules
     _ _ _ _ c.step.new.chooser.refused_bound _ _ turn.given _ _ _ _ c.in-Ok-Some.ending _
+    (c.in-Ok-Some.is ∙ ap Ok (c.in-Ok-Some.field-0-is ∙ ap Some c.in-Ok-Some.ending-is)) u turn.gives.first
+    (none_follow c.step.new.source) turn.steps
+
+-- as many commands were begun then as the play of its answers begins
+begun : (c : In-Ok-Some)
+    → IsRunPrefix c.loop-ending.self.player c.args.source.now.lines c.args.self.now.rules
+    (recorder_choices c.loop-ending.self.chooser)
+    c.loop-ending.screen (drop c.loop-ending.source.taken c.loop-ending.source.lines) c.advance.new.machine
+    → c.step.new.machine.steps ≡ play_steps c.loop-ending.self.player c.args.source.now.lines c.args.self.now.rules
+    (recorder_choices c.step.new.chooser).taken
+begun c u =
+    let turn = c.step.ensures.turn in
+    step_begun c.run_laws.ensures c.loop-ending.self.player c.args.source.now.lines c.args.self.now.rules
+    (RefusedByPlan (recorder_choices c.step.new.chooser) c.step.new.chooser.refused_bound)
+    _ _ _ _ _ _ turn.given _ _ _ _ c.in-Ok-Some.ending _
     (c.in-Ok-Some.is ∙ ap Ok (c.in-Ok-Some.field-0-is ∙ ap Some c.in-Ok-Some.ending-is)) u turn.gives.first
     (none_follow c.step.new.source) turn.steps
 
@@ -127,6 +142,11 @@ pub returns-in-Ok-Some-clause-ends : goal.returns-in-Ok-Some-clause-ends
 returns-in-Ok-Some-clause-ends c =
     let before = goal.at.returns-in-Ok-Some-clause-ends c in
     rw (← c.loop-ending.invariant.program) (ended before.In-Ok-Some (advances before.After-advance)).1
+
+pub returns-in-Ok-Some-clause-begun : goal.returns-in-Ok-Some-clause-begun
+returns-in-Ok-Some-clause-begun c =
+    let before = goal.at.returns-in-Ok-Some-clause-begun c in
+    rw (← c.loop-ending.invariant.program) (begun before.In-Ok-Some (advances before.After-advance))
 
 pub returns-in-Ok-Some-clause-copies : goal.returns-in-Ok-Some-clause-copies
 returns-in-Ok-Some-clause-copies c =

@@ -11,7 +11,7 @@ use Rattle.ptb_explore.specs.PlannedPlays.{PlayEnds}
 use Rattle.ptb_explore.specs.Recorders.{recorder_choices}
 use Rattle.ptb_explore.proofs.RestoredCopies.{agrees_same, prefix_of_same}
 use Rattle.ptb_explore.proofs.KeptCopies.{kept_same}
-use Rattle.ptb_explore.proofs.Runners.{copies_stay, counted, game_is, still_same}
+use Rattle.ptb_explore.proofs.Runners.{copies_stay, counted, game_is, steps_are, still_same}
 use Rattle.ptb_explore.proofs.runner.Runner.play_plan.Goals as goal
 
 pub returns-clause-same : goal.returns-clause-same
@@ -41,6 +41,18 @@ returns-clause-ends c =
     let ends = subst (λ (g : Answers → Outcome Finish (List ℕ)). PlayEnds g
     (recorder_choices chooser) chooser.refused_bound steps shown c.in_ok-self.field-0) game c.in_ok-self.ensures.ends in
     rw (c.into_vec.ensures, c.steps-steps.ensures, c.deref.ensures) ends
+
+pub returns-clause-begun : goal.returns-clause-begun
+returns-clause-begun c =
+    let old = c.args.self.now in
+    let back = c.go_back-machine.new.self in
+    let same = c.go_back-machine.ensures.same in
+    let lines : c.go_back-machine.new.source.lines ≡ old.lines.now =
+    c.go_back-machine.ensures.same_lines ∙ ap (λ (s : LineList). s.lines) c.new-source.ensures in
+    let begun = c.in_ok-self.ensures.begun ∙ steps_are old.player back.player old.lines.now
+    c.go_back-machine.new.source.lines old.rules back.rules (ap (λ (r : Runner). r.player) same) lines
+    (ap (λ (r : Runner). r.rules) same) (recorder_choices c.play_counted-ending.new.self.chooser).taken in
+    rw (c.steps-steps.ensures, c.deref.ensures) begun
 
 pub returns-clause-copies : goal.returns-clause-copies
 returns-clause-copies c =
@@ -85,6 +97,7 @@ returns-in_err-machine c =
       same = still_same c.go_back-machine.new.self c.args.self.now _ same;
       plan = IfOk-from_err _ _ c.from_residual.ensures.0;
       ends = IfOk-from_err _ _ c.from_residual.ensures.0;
+      begun = IfOk-from_err _ _ c.from_residual.ensures.0;
       asked = ap (λ (r : Runner). r.report.asked.items) same;
       copies = IfOk-from_err _ _ c.from_residual.ensures.0;
       played = IfOk-from_err _ _ c.from_residual.ensures.0;
@@ -101,6 +114,7 @@ returns-in_err-self c =
       same = counted c.play_counted-ending.new.self c.go_back-machine.new.self c.args.self.now _ _ _ more same;
       plan = IfOk-from_err _ _ c.from_residual-in_err-self.ensures.0;
       ends = IfOk-from_err _ _ c.from_residual-in_err-self.ensures.0;
+      begun = IfOk-from_err _ _ c.from_residual-in_err-self.ensures.0;
       asked = ap (λ (r : Runner). r.report.asked.items) more ∙ ap (λ (r : Runner). r.report.asked.items) same;
       copies = IfOk-from_err _ _ c.from_residual-in_err-self.ensures.0;
       played = IfOk-from_err _ _ c.from_residual-in_err-self.ensures.0;
