@@ -10,7 +10,7 @@ mod Tree
 mod NextRuns
 mod ListingLaws
 mod Shares
-mod Bounds
+mod AskedBounds
 mod RaisedAnswers
 mod Attempt
 mod RecorderPlans

@@ -39,7 +39,7 @@ use Rattle.ptb_machine.specs.Play.{run_from}
 use Rattle.ptb_explore.specs.Recorders.{RefusedByPlan}
 use Rattle.ptb_explore.proofs.Limits.{play-is, turn_below}
 use Rattle.ptb_explore.proofs.Tree.{tree_laws}
-use Rattle.ptb_explore.proofs.Bounds.{holds_on, holds_at_first}
+use Rattle.ptb_explore.proofs.AskedBounds.{holds_on, holds_at_first}
 
 -- what a screen in memory holds
 abbrev pub text_state : List ℕ → ScreenState
