@@ -361,7 +361,8 @@ module _ (refused : Refusal → Type 0) (p : StoredProgram) (rules : Rules) (m n
     module _ (fault : DeviceFault) (w : DeviceFails refused LastStep e act_state (Over endings.NoInput) fault)
         (line : WantsLine (Over endings.NoInput) w.bytes w.left) (unfailed : e.screen.failures ≡ w.screen.failures)
       where
-        abbrev run_so : RunsTo p rules n o whole rest (onto d (with_screen w.screen e)) (then_turns p rules.limit w.left)
+        abbrev run_so : RunsTo p rules n o whole rest (onto d (with_screen w.screen e))
+            (then_turns p rules.limit w.left)
         run_so = last (with_screen w.screen e) w.left w.comes
 
         unread : LastStep e w.left
