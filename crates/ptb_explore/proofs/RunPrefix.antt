@@ -21,7 +21,7 @@ use Rattle.ptb_command.specs.State.{State, first_state}
 use Rattle.ptb_command.specs.Act.{StepResult, Next, Over}
 use Rattle.ptb_machine.specs.Play.{Finish, turn, after_step_result, turns, play}
 use Rattle.ptb_machine.specs.Laws.{RunLaws}
-use Rattle.ptb_command.specs.Devices.{ScreenState, Devices, devices, Refusal, nothing_refused, refused_by}
+use Rattle.ptb_command.specs.Devices.{ScreenState, devices, Refusal, nothing_refused, refused_by}
 use Rattle.ptb_command.specs.Configuration.{Configuration}
 use Rattle.ptb_command.specs.Effects.{act_state}
 use Rattle.ptb_command.specs.Representation.{Represents}
