@@ -359,43 +359,42 @@ module _ (refused : Refusal → Type 0) (p : StoredProgram) (rules : Rules) (m n
 
     -- where the input can't be read a line was wanted
     module _ (fault : DeviceFault) (w : DeviceFails refused LastStep e act_state (Over endings.NoInput) fault)
-        (line : WantsLine (Over endings.NoInput) w.bytes w.left) (unfailed : e.screen.failures ≡ w.screen.failures)
-      where
-        abbrev run_so : RunsTo p rules n o whole rest (onto d (with_screen w.screen e))
-            (then_turns p rules.limit w.left)
-        run_so = last (with_screen w.screen e) w.left w.comes
+        (line : WantsLine (Over endings.NoInput) w.bytes w.left)
+        (unfailed : e.screen.failures ≡ w.screen.failures) where
+      abbrev run_so : RunsTo p rules n o whole rest (onto d (with_screen w.screen e)) (then_turns p rules.limit w.left)
+      run_so = last (with_screen w.screen e) w.left w.comes
 
-        unread : LastStep e w.left
-        unread = up_to w.screen w.left (subst (λ (bytes : List ℕ). Shows w.screen e.screen bytes) line.0 w.shows)
-            unfailed w.comes
+      unread : LastStep e w.left
+      unread = up_to w.screen w.left (subst (λ (bytes : List ℕ). Shows w.screen e.screen bytes) line.0 w.shows)
+          unfailed w.comes
 
-        same_state : (last e w.left unread).leads.state ≡ run_so.leads.state
-        unfolding last run_then unread up_to
-        same_state = refl
+      same_state : (last e w.left unread).leads.state ≡ run_so.leads.state
+      unfolding last run_then unread up_to
+      same_state = refl
 
-        shown_so : run_so.leads.state.shown ≡ run_so.exchange.bytes ++ w.bytes
-        shown_so = run_so.leads.shown
-            ∙ sym (ap (λ l. run_so.exchange.bytes ++ l) line.0 ∙ append-nil run_so.exchange.bytes)
+      shown_so : run_so.leads.state.shown ≡ run_so.exchange.bytes ++ w.bytes
+      shown_so = run_so.leads.shown
+          ∙ sym (ap (λ l. run_so.exchange.bytes ++ l) line.0 ∙ append-nil run_so.exchange.bytes)
 
-        lacks : (choose : Option ℤ) → IfSome choose (λ n. pos 1 ≤ℤ n)
-            → LacksLine choose (Over endings.NoInput) w.left run_so.leads.state
-            → LacksInput refused p rules whole o (onto d e) choose (run_so.exchange.bytes ++ w.bytes)
-            (playing (then_turns p rules.limit w.left) run_so.leads.state)
-        lacks None high dry = ends_dry w.left unread
-            (λ a. subst (λ (T : State). w.left T a ≡ Done (Over endings.NoInput T) a) (sym same_state) (dry a))
-        lacks (Some k) high asks = ap (λ u. as_played (go_on u (after_turn (all_turns p rules.limit)))) (asks high)
-            ∙ ap (λ (s : List ℕ). Asks k s) shown_so
+      lacks : (choose : Option ℤ) → IfSome choose (λ n. pos 1 ≤ℤ n)
+          → LacksLine choose (Over endings.NoInput) w.left run_so.leads.state
+          → LacksInput refused p rules whole o (onto d e) choose (run_so.exchange.bytes ++ w.bytes)
+          (playing (then_turns p rules.limit w.left) run_so.leads.state)
+      lacks None high dry = ends_dry w.left unread
+          (λ a. subst (λ (T : State). w.left T a ≡ Done (Over endings.NoInput T) a) (sym same_state) (dry a))
+      lacks (Some k) high asks = ap (λ u. as_played (go_on u (after_turn (all_turns p rules.limit)))) (asks high)
+          ∙ ap (λ (s : List ℕ). Asks k s) shown_so
 
-        unread_dry : rest ≡ []
-            → LacksInput refused p rules whole o (onto d e) rules.choose (run_so.exchange.bytes ++ w.bytes)
-            (playing (then_turns p rules.limit w.left) run_so.leads.state)
-        unread_dry none =
-            subst (λ (choose : Option ℤ). LacksInput refused p rules whole o (onto d e) choose
-            (run_so.exchange.bytes ++ w.bytes) (playing (then_turns p rules.limit w.left) run_so.leads.state))
-            run_so.leads.choose
-            (lacks run_so.leads.state.choose (subst (λ (choose : Option ℤ). IfSome choose (λ n. pos 1 ≤ℤ n))
-            (sym run_so.leads.choose) rules.in_range)
-            (line.1 run_so.leads.state (run_so.leads.lines ∙ none)))
+      unread_dry : rest ≡ []
+          → LacksInput refused p rules whole o (onto d e) rules.choose (run_so.exchange.bytes ++ w.bytes)
+          (playing (then_turns p rules.limit w.left) run_so.leads.state)
+      unread_dry none =
+          subst (λ (choose : Option ℤ). LacksInput refused p rules whole o (onto d e) choose
+          (run_so.exchange.bytes ++ w.bytes) (playing (then_turns p rules.limit w.left) run_so.leads.state))
+          run_so.leads.choose
+          (lacks run_so.leads.state.choose (subst (λ (choose : Option ℤ). IfSome choose (λ n. pos 1 ≤ℤ n))
+          (sym run_so.leads.choose) rules.in_range)
+          (line.1 run_so.leads.state (run_so.leads.lines ∙ none)))
 
     dry_by : (device : DeviceFault) (w : DeviceFails refused LastStep e act_state (Over endings.NoInput) device)
         → fault_of_device device ≡ faults.Read → rest ≡ []
