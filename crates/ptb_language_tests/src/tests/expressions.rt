@@ -609,6 +609,11 @@ impl Row<Global> for Seed {
     }
 }
 
+// Whether the views of what is kept have these answers and bounds.
+fn are_viewed(seeded: &Seeded, answers: &[i16], bounds: &[i16]) -> bool {
+    seeded.answers().eq(answers.iter().copied()) && seeded.bounds().eq(bounds.iter().copied())
+}
+
 // Whether two answers to questions with bound 6 are these, which are all that is kept.
 fn are_two_rolls(store: &Store, seeded: &mut Seeded, first: i16, second: i16) -> bool {
     let found = (
@@ -621,8 +626,7 @@ fn are_two_rolls(store: &Store, seeded: &mut Seeded, first: i16, second: i16) ->
     };
     kept == (first, 6, second, 6)
         && found == (i64::from(first), i64::from(second))
-        && seeded.answers().eq([first, second])
-        && seeded.bounds().eq([6, 6])
+        && are_viewed(seeded, &[first, second], &[6, 6])
 }
 
 // Once answers are forgotten, the next ones are drawn by the words that follow. The words are those of
