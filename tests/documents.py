@@ -45,6 +45,7 @@ ALL_PAGES = [*PAGES_AT_THE_TOP, "docs/*.md", "docs/*.1", "examples/README.md", S
 LINES_OF_A_PAGE = {"README.md": 200, "CONTRIBUTING.md": 150, "docs/ARCHITECTURE.md": 200, SPECIFICATION: 125}
 DECISIONS = "docs/DECISIONS.md"
 LINES_OF_A_DECISION = 8
+MOST_IMPORTS = 5
 BYTES_OF_A_PICTURE = 100_000
 LOOKS_LIKE_COMMAND = re.compile(r"    (\./|rt |tests/|tools/|ptb-|cd |cat |diff |printf |echo |sed |tr |seq |xargs |parallel |q=)")
 # Programs that a reader may do without.
@@ -394,6 +395,14 @@ class Layout(unittest.TestCase):
                 self.assertTrue(paths)
                 wide = [(path, number) for path in paths for number in sources.wide_lines(sources.text_of(path))]
                 self.assertEqual([f"{os.path.relpath(path, ROOT)}:{number}" for path, number in wide], [])
+
+    def test_imports(self):
+        """A file of code begins with at most five lines of imports for its contracts."""
+        paths = sorted(glob.glob(f"{ROOT}/crates/*/src/**/*.rt", recursive=True))
+        self.assertTrue(paths)
+        for path in paths:
+            with self.subTest(os.path.relpath(path, ROOT)):
+                self.assertLessEqual(len(sources.contract_imports(sources.text_of(path))), MOST_IMPORTS)
 
 
 class Prose(unittest.TestCase):

@@ -35,6 +35,11 @@ def wide_lines(text):
     return [number for number, line in lines if len(line) > WIDTH and not UNBROKEN.fullmatch(line)]
 
 
+def contract_imports(text):
+    """The lines that import what the contracts of a file of code cite."""
+    return [line for line in text.split("\n") if line.startswith("ghost use ")]
+
+
 def head(text):
     """The comment with which a file begins."""
     found = HEAD.match(text)

@@ -9,12 +9,13 @@ pub use Rattle.ptb_expr.specs.ReadSteps.{ReadsSteps, FailsSteps, operand_steps}
 pub use Rattle.ptb_expr.specs.Evaluation.{Evaluates, IsEvaluated, IsMarkedWithin, IsTarget, IsWhole, variable_target}
 pub use Rattle.ptb_expr.specs.Evaluation.{variable_there, expression_there, expression_value}
 pub use Rattle.ptb_expr.specs.Operators.{product_operator, sum_operator, comparison}
-pub use Rattle.ptb_expr.specs.Reading.{item_of}
+pub use Rattle.ptb_expr.specs.Reading.{item_of, Whole}
 pub use Rattle.ptb_expr.specs.Spells.{Spells, Variable, Expr, Sum, First, Product, Factor, Paren}
 pub use Rattle.ptb_expr.specs.Starts.{BeginsFactor, IsBefore, start_room, sign_of, with_before, room_before, IsFirst}
 pub use Rattle.ptb_expr.specs.Stops.{HasResult, RunsOn, IfFull}
 pub use Rattle.ptb_expr.specs.Store.{map_ok}
 pub use Rattle.ptb_expr.specs.Translation.{AreStepsOf, IsMalformed, IsVariableRead, IsVariable}
+pub use Rattle.ptb_expr.specs.Tree.{Num}
 pub use Rattle.ptb_expr.specs.TreeSteps.{plain_step, after_step, run, waiting}
 pub use Rattle.ptb_expr.specs.Value.{fault, in_range, truth, operation, negation, absolute_value, chosen, random_number}
 pub use Rattle.ptb_expr.specs.declared.fault.FaultKind.TheVariants.{What, How}
