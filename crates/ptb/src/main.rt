@@ -1,7 +1,7 @@
 //! The program `ptb`: it serves the request that its arguments make, and exits with a status.
 //!
-//! It depends on `ptb_serve`, `ptb_explore`, `ptb_machine`, `ptb_options`, `ptb_text` and `clap`, and
-//! on definitions of `ptb_command`. No crate depends on it.
+//! It depends on `ptb_serve`, `ptb_explore`, `ptb_machine`, `ptb_options`, `ptb_text` and `clap`. No
+//! crate depends on it.
 //!
 //! Its contract is that of `run_arguments`, over any arguments, or the error of reading them, and over
 //! any programs, input and writer. If the arguments make a request, the bytes that are read and

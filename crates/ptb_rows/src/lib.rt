@@ -2,9 +2,9 @@
 //! tables of chances (`language_rows.rt`), and those of requests and command lines (`rows.rt`), by
 //! the definitions.
 //!
-//! It depends on `ptb_serve`, `ptb_options`, the crates below them and `clap`. No crate depends on
-//! it, so neither a build of the program nor the trial of a planted bug computes its rows. They hold
-//! of the definitions; `ptb_tests` runs the code.
+//! It depends on `ptb_serve`, `ptb_options`, the crates below them, `clap` and `rand_pcg`. No crate
+//! depends on it, so neither a build of the program nor the trial of a planted bug computes its rows.
+//! They hold of the definitions; `ptb_tests` runs the code.
 #![tactic(auto)]
 
 mod language_rows;

@@ -2,8 +2,8 @@
 //! or of the mistakes in its text.
 //!
 //! It depends on `ptb_options`, `ptb_chances`, `ptb_explore`, `ptb_check`, `ptb_machine`,
-//! `ptb_answers` and `ptb_text`, and on definitions of `ptb_command`, `ptb_devices` and `rand_pcg`. The
-//! crate above may rely on `serve` (bytes, status and note are those of `specs/Replies`, or the note
+//! `ptb_answers` and `ptb_text`, and on definitions of `ptb_command` and `ptb_devices`. The crate
+//! above may rely on `serve` (bytes, status and note are those of `specs/Replies`, or the note
 //! says what failed: `specs/Promises`), on `FlushingWriter` (a writer whose bytes are those of its
 //! inner writer, which it flushes) and on `reply_laws`.
 #![tactic(auto)]

@@ -2,9 +2,9 @@
 //! quotations at a place of a text, and the cursor that finds them; the lines of a program text, and
 //! the statements under their numbers.
 //!
-//! It depends on `arrayvec`, `itoa` and `thiserror`. The crates above may rely on `Cursor` (each
-//! call finds what `specs/Words` says is at its place, and takes only that), on `finding_laws`, on
-//! `load` (the statements that a text has, or which of its lines is refused first), on the look-ups of
+//! It depends on `itoa` and `thiserror`. The crates above may rely on `Cursor` (each call finds what
+//! `specs/Words` says is at its place, and takes only that), on `finding_laws`, on `load` (the
+//! statements that a text has, or which of its lines is refused first), on the look-ups of
 //! `Program`, on `OutputBuffer` (a writer gets what was put into it, in this order), and on
 //! `Allowance` (a reader is read within a limit, and one byte shows that it has more).
 #![tactic(auto)]
