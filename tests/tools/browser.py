@@ -6,7 +6,6 @@ group, so that nothing is left when it is closed.
 
 from __future__ import annotations
 
-import base64
 import contextlib
 import fcntl
 import json
@@ -201,12 +200,6 @@ class Browser:
         for kind in ("mousePressed", "mouseReleased"):
             where = {"x": place[0], "y": place[1], "button": "left", "clickCount": 1}
             self.call("Input.dispatchMouseEvent", type=kind, **where)
-
-    def screenshot(self, path: str) -> None:
-        """Writes a picture of the screen."""
-        picture = self.call("Page.captureScreenshot", format="png")
-        with open(path, "wb") as file:
-            file.write(base64.b64decode(picture["data"]))
 
     def messages(self) -> list[str]:
         """What the page wrote to the console, its exceptions, and the browser's own remarks on it."""
