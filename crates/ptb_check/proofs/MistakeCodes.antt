@@ -199,7 +199,7 @@ module _ (p : Statements) (t : List ℕ) (word : Word) (i : ℕ) (steps : List S
   code_tells left (operations.Stop ∷ rest) h tells = nothing_jumps p word left h.1 h.2
   code_tells left (operations.Remark ∷ rest) h tells = nothing_jumps p word left h.1 h.2
 
--- ---- a whole command
+-- ---- a complete command
 
 fault_without : (parts : List Part) → parts_fault (without_letter parts) ≡ parts_fault parts
 fault_without [] = refl

@@ -422,7 +422,7 @@ finish_end ForKw p q e x operands = for_end e _
 finish_end NextKw p q e x operands = next_end e x _
 finish_end _ p q e x operands = go_to_end _
 
--- ---- whole commands
+-- ---- complete commands
 
 command_joined : (S T U : State) → CommandChange S T → CommandChange T U → CommandChange S U
 command_joined S T U a b = record {

@@ -101,7 +101,7 @@ module _ (m n : InputNow) (reads : ReadsOn 1 m [] n) where
       ReadsOn_then 1 0 (asked b) m n (record n { state = b }) [] (kept_bytes b.piece ∷ []) reads
       (ReadsOn_line 0 n b kept cuts) (omega arith) (omega arith)
 
-  -- none is whole in it
+  -- none is complete in it
   pub all_cut : (b : InputState) → n.state.is_given ≡ false → CutsAll n.state b
       → ReadsOn 1 m [] (record n { state = b })
   all_cut b kept cuts = ReadsOn_then 1 0 1 m n (record n { state = b }) [] [] reads (ReadsOn_all 0 n b kept cuts)

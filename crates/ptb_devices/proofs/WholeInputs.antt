@@ -1,4 +1,4 @@
--- This file proves what holds at each exit from reading a whole input, by what was read before and what the last read
+-- This file proves what holds at each exit from reading an entire input, by what was read before and what the last read
 -- did.
 -- Main lemma: `told_all`.
 use Rattle.std.proofs.Common.{◌≡◌, ◌∙◌, ℕ, List, ◌++◌, Option, IfSome, Result, Ok, Err, IfErr, IfOk, IsOk, refl, sym}

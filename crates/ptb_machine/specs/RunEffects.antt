@@ -1,4 +1,4 @@
--- This file defines what a turn of a run and a whole run may change of the state in which it begins.
+-- This file defines what a turn of a run and a complete run may change of the state in which it begins.
 -- Main definition: `TurnChange`.
 --     run_shown o, run_steps o         what a run has shown, and how many commands it has begun, where it is over or
 --                                      asks

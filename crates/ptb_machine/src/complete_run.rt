@@ -61,8 +61,8 @@ pub(crate) fn run_to_end<C: Chooser, S: Screen, L: LineSource>(
     play(&player, &mut machine, &mut io)
 }
 
-// A player of a program, and a machine at the beginning of its run. `run` owns them and lends them to `play`, which
-// has the loop: each exit of a body is proved with all that the body owns.
+// A player of a program, and a machine at the beginning of its run. `run_to_end` owns them and lends them to `play`,
+// which has the loop: each exit of a body is proved with all that the body owns.
 fn start_run(alloc: Global, program: &Program) -> Result<(Player<'_>, Machine), AllocError>
     ensures player { IfOk result (λ b. b.0 ≡ program.now) }
     ensures first { IfOk result (λ b. IsAtFirst b.0 b.1) }

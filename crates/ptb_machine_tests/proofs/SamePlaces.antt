@@ -91,7 +91,7 @@ gives p = Ok p
 same_lines : (p q : Statements) → gives p ≡ gives q → p ≡ q
 same_lines p q e = cc
 
--- the first command that is read: none, a whole one, or a malformed one
+-- the first command that is read: none, a well-formed one, or a malformed one
 abbrev reading_kind : Reading (List Part) → ℕ
 reading_kind (Whole parts i) = 1
 reading_kind (Malformed parts) = 2

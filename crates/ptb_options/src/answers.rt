@@ -76,7 +76,7 @@ pub(crate) fn parse_answers(alloc: Global, text: &str) -> Result<PlainAnswers, U
 }
 
 // The list of items of this kind that a text spells. Whether an item may have a bound is said twice:
-// by the kind, and by `bounds`, for which the whole text is looked at before memory is taken.
+// by the kind, and by `bounds`, for which the entire text is looked at before memory is taken.
 fn parse_as<T: ListItem>(
     alloc: Global,
     text: &str,

@@ -37,7 +37,7 @@ pub record LoadingRows : Type 0 where
   pub long_text : program 4096 (codes "10 A=" ++ replicate 254 57) ≡ Err (1, TextTooLong)
   pub order : program 4096 (line (codes "20 P.\"B\"") ++ codes "10 P.'A',;P.") ≡ Ok
       ((10, codes "P.'A',;P.") ∷ (20, codes "P.\"B\"") ∷ [])
-  -- a replaced line costs no more, and a program may take the whole memory
+  -- a replaced line costs no more, and a program may take the entire memory
   pub replaced : program 64 (line (codes "1 " ++ replicate 61 65) ++ line (codes "1 " ++ replicate 61 66)) ≡ Ok
       ((1, replicate 61 66) ∷ [])
   pub one_byte_more : program 64 (codes "1 " ++ replicate 62 65) ≡ Err (1, Full)

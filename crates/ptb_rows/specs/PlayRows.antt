@@ -89,7 +89,7 @@ pub record InputRows : Type 0 where
       (codes "A:5" ++ (10 ∷ []) ++ codes "B:", NoInput)
   pub input_quote : shows 4096 (codes "10 INPUT \"N" ++ (10 ∷ [])) ([]) 10000 ([]) ≡ Some
       (codes "WHAT?" ++ (10 ∷ []) ++ codes "10 INPUT ?\"N" ++ (10 ∷ []), What)
-  -- after a faulty line the whole item is done again
+  -- after a faulty line the entire item is done again
   pub index_asks_again : shows 4096 (codes "10 INPUT @(RND(2))\n")
       (codes ")\n5\n") 10000 (pos 1 ∷ []) ≡ Some (codes "@(RND(2)):)\nWHAT?\n", NoAnswer)
   pub string_again : shows 4096 (codes "10 INPUT \"N\"A\n")

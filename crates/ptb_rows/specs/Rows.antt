@@ -1,4 +1,4 @@
--- This file has worked rows of the whole tool and of its command line.
+-- This file has worked rows of the complete tool and of its command line.
 -- Main definitions: `RunRows`, `AllRows` and `OptionRows`.
 --     RunRows, SeedRows, ChoiceRows, ProgramRows, ExampleRows, LongRunRows     rows of plain runs
 --     AllRows, AfterRows, BoundRows, ShareRows, SplitRows     rows of listings, of shares, and of lists that split them

@@ -124,7 +124,7 @@ pub none_entered : (memory : ℕ) (p : Statements) → p ≡ [] → after_lines 
 unfolding after_lines
 none_entered memory p none = ap Ok (sym none)
 
--- ---- a whole text, whose bytes may be known
+-- ---- an entire text, whose bytes may be known
 
 -- the lines that are entered are those of the text
 module _ (known : Option (List ℕ)) (text spaced : List ℕ) (memory : ℕ) (is : IfSome known (λ b. b ≡ text))

@@ -1,4 +1,4 @@
-// This file tests the code of a whole program: which command it finds at a place, how many commands
+// This file tests the code of an entire program: which command it finds at a place, how many commands
 // are done by it in a row, and a program that has more commands than there is room for their code.
 
 use crate::tests::loops::expect_end;

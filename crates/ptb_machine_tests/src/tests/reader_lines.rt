@@ -170,7 +170,7 @@ const LENGTHS: &[(usize, usize, &[&[u8]], Option<DeviceFault>, usize)] = &[
     (usize::MAX, 16_777_216, &[], TOO_LONG, 16_777_217),
 ];
 
-// The lines that are whole within the limit come first, the last of them with its newline.
+// The lines that are complete within the limit come first, the last of them with its newline.
 #[test]
 fn length_of_an_input(rt: HostRuntime) {
     for &(left, newline_at, lines, fault, taken) in LENGTHS {
@@ -212,8 +212,8 @@ fn expect_ready<L: LineSource>(rt: &impl Abort, asked: usize, source: &mut L, li
 }
 
 // Each input, how many of its lines are asked for before, the lines that are at hand then, and how
-// often the reader is read. Those are at hand that came whole with the buffer, up to one that the
-// cleaning changes. The reader is read only where no line is whole, and never after its end.
+// often the reader is read. Those are at hand that came complete with the buffer, up to one that the
+// cleaning changes. The reader is read only where no line is complete, and never after its end.
 const READY: &[(&[u8], usize, &[&[u8]], usize)] = &[
     (b"5\n7\n", 0, &[], 0),
     (b"5\n7\n", 1, &[b"7"], 1),

@@ -53,7 +53,7 @@ fn expect_report(rt: &impl Abort, alloc: Global, (fresh, length, mark): (bool, u
     expect_eq(rt, "a report", found, (true, due.as_slice()));
 }
 
-// A report is whole, and has its mark, even if the text is longer than that of a statement.
+// A report is complete, and has its mark, even if the text is longer than that of a statement.
 #[test]
 fn reports(rt: HostRuntime) {
     for &row in REPORTS {

@@ -1,4 +1,4 @@
-// This file tests whole runs: how they end, at which line a limit stops them, and what they show.
+// This file tests complete runs: how they end, at which line a limit stops them, and what they show.
 
 use crate::tests::shared::{Counted, expect_eq, loaded, plain_rules, rules_with, table};
 use ptb_expr::Listed;

@@ -54,7 +54,7 @@ fn size_of(items: &[&str]) -> usize {
     size
 }
 
-// How many items are whole in a room that has a beginning of all; `None` where it has something else.
+// How many items are complete in a room that has a prefix of all; `None` where it has something else.
 fn whole_items(room: &[u8], items: &[&str]) -> Option<usize> {
     let mut rest = room;
     let mut count: usize = 0;
@@ -88,7 +88,7 @@ fn is_written_in<W: Writing>(source: &Source, row: &Written<W>, size: usize) -> 
     is_result(written, &room[..size], row.3)
 }
 
-// The items are written where there is just enough room; where there is less, a beginning of them is.
+// The items are written where there is just enough room; where there is less, a prefix of them is.
 impl<W: Writing> Row<Global> for Written<W> {
     fn holds(&self, alloc: &Global) -> bool {
         let Ok(source) = source_of(*alloc, self.0, self.1) else {

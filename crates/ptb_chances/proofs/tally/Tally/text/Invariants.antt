@@ -1,4 +1,4 @@
--- This file says that what is written and the rows that are left are the whole table.
+-- This file says that what is written and the rows that are left are the complete table.
 use Rattle.std.proofs.Common.{◌≡◌, ◌++◌, map}
 use Rattle.ptb_chances.specs.Chances.{table_text}
 use Rattle.ptb_chances.specs.Accounts.{reduced}
