@@ -4,7 +4,6 @@ use Rattle.std.proofs.Common.{◌≡◌, ℕ, zero, suc, ◌+◌, ◌*◌, ◌<�
 use Rattle.std.proofs.Common.{List, true, inl, inr, refl, ap, sym, ◌∙◌, subst, arith, length-append}
 use Rattle.std.specs.Prelude.{ℤ, pos, negsuc, ◌≤ℤ◌}
 use Rattle.std.specs.List.{flat_map, range_with_len}
-use Rattle.std.proofs.Math.Nat.{eq_of_mul-eq-mul_right}
 use Rattle.std.proofs.lemmas.Nat.{mul-le}
 use Rattle.std.proofs.lemmas.Int.{ints}
 use Rattle.ptb_numbers.specs.Fractions.{Ratio, plus, Equals}
@@ -14,38 +13,13 @@ use Rattle.ptb_machine.specs.RunTree.{answers_to, leaves, leaves_of, tree}
 use Rattle.ptb_chances.specs.Chances.{answer_count, bound_product, chance, chance_of_all}
 use Rattle.ptb_machine.proofs.PublicLemmas.{bounds-append}
 use Rattle.ptb_machine.proofs.PublicLemmas.{is_answer_from}
+use Rattle.ptb_chances.proofs.Sums.{parts_same, plus_assoc, equals_plus, equals_then}
 
 -- ---- sums of fractions
-
-parts_same : (p q a b : ℕ) → p ≡ a → q ≡ b
-    → ◌≡◌ {A = Ratio} (record { numerator = p; denominator = q }) (record { numerator = a; denominator = b })
-parts_same p q a b first second = rw (first, second) refl
 
 plus_none : (f : Ratio) → plus (record { numerator = 0; denominator = 1 }) f ≡ f
 plus_none f = parts_same (0 * f.denominator + f.numerator * 1) (1 * f.denominator) f.numerator f.denominator
     (omega arith) (omega arith)
-
-plus_assoc : (f g h : Ratio) → plus (plus f g) h ≡ plus f (plus g h)
-plus_assoc f g h = parts_same _ _ _ _
-    (let left : (f.numerator * g.denominator + g.numerator * f.denominator) * h.denominator + h.numerator
-    * (f.denominator * g.denominator)
-    ≡ f.numerator * (g.denominator * h.denominator) + (g.numerator * h.denominator + h.numerator * g.denominator)
-    * f.denominator = omega arith in left)
-    (let right : f.denominator * g.denominator * h.denominator
-    ≡ f.denominator * (g.denominator * h.denominator) = omega arith in right)
-
-equals_plus : (f g h k : Ratio) → Equals f g → Equals h k → Equals (plus f h) (plus g k)
-equals_plus f g h k first second = omega (
-  arith,
-  ap (λ n. n * (h.denominator * k.denominator)) first,
-  ap (λ n. n * (f.denominator * g.denominator)) second,
-)
-
-equals_then : (f g h : Ratio) → 0 < g.denominator → Equals f g → Equals g h → Equals f h
-equals_then f g h some first second =
-    let both : f.numerator * h.denominator * g.denominator ≡ h.numerator * f.denominator * g.denominator =
-    omega (arith, ap (λ n. n * h.denominator) first, ap (λ n. n * f.denominator) second) in
-    eq_of_mul-eq-mul_right g.denominator some (f.numerator * h.denominator) (h.numerator * f.denominator) both
 
 -- ---- chances
 

@@ -1,5 +1,5 @@
 -- This file proves how actions that follow one another move and stop.
--- Main lemmas: `refines_part_on` and `stops_first`.
+-- Main lemma: `refines_part_on`.
 use Rattle.std.proofs.Common.{◌≡◌, ℕ, List, Result, Ok, Err, refl, sym, subst}
 use Rattle.ptb_expr.specs.declared.fault.Fault.{Fault}
 use Rattle.ptb_expr.specs.declared.fault.FaultKind.{FaultKind}
@@ -16,7 +16,7 @@ use Rattle.ptb_command.proofs.PendingBytes.{stops_pending}
 use Rattle.ptb_command.proofs.Effects.{then_keeps, takes_itself}
 use Rattle.ptb_command.proofs.PartRefinement.{refines_part_refl, refines_part_under}
 use Rattle.ptb_command.proofs.Stops.{GoesForward, forward_itself, forward_joined, Adds}
-use Rattle.ptb_command.proofs.Stops.{attempt_adds, or_halt_adds, stops_under, stops_more}
+use Rattle.ptb_command.proofs.Stops.{attempt_adds, or_halt_adds, stops_more}
 
 -- ---- what takes back nothing that was shown, and gives back no line
 
@@ -42,12 +42,6 @@ work_action_adds f = then_adds (attempt f) or_halt (attempt_adds f) or_halt_adds
 pub refines_part_on : {A B : Type 0} {o n : Trace} {f : Action A} {x : A} (next : A → Action B)
     → RefinesPart o n f (goes_on x) → RefinesPart o n (and_then f next) (next x)
 refines_part_on next m = refines_part_under next m
-
--- where it stops, what comes next is not done
-pub stops_first : {A B : Type 0} (refused : Refusal → Type 0) (o n : Trace) (f : Action A) (next : A → Action B)
-    → ((x : A) → Adds (next x)) → (e : CommandStop) → Stops refused (RefinesPartTo o n f) n.devices e
-    → Stops refused (RefinesPartTo o n (and_then f next)) n.devices e
-stops_first refused o n f next adds e h = stops_under refused o n f next adds e h
 
 -- where nothing is refused, nothing is refused by anybody
 pub stops_unrefused : {A : Type 0} (refused : Refusal → Type 0) (o n : Trace) (f : Action A) (e : CommandStop)

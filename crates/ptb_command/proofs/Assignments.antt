@@ -17,8 +17,8 @@ use Rattle.ptb_command.proofs.Effects.{begins_itself, takes_itself}
 use Rattle.ptb_command.proofs.Exchanges.{exchanges_none}
 use Rattle.ptb_command.proofs.PartRefinement.{leaves_to, leaves_itself, after_nothing}
 use Rattle.ptb_command.proofs.PartRefinement.{freshens_nothing, refines_part_then}
-use Rattle.ptb_command.proofs.Stops.{Adds, parts_add, stops_after}
-use Rattle.ptb_command.proofs.Actions.{then_adds, work_action_adds, refines_part_on, stops_first}
+use Rattle.ptb_command.proofs.Stops.{Adds, parts_add, stops_after, stops_under}
+use Rattle.ptb_command.proofs.Actions.{then_adds, work_action_adds, refines_part_on}
 
 -- a value is stored
 pub store_refines_part : (d : Devices) (fresh : Bool) (pending : List ℕ) (c e : Cells) (at : Target) (v : ℤ)
@@ -86,7 +86,7 @@ module _ (rest : List Part) (w : ℕ) (operands : List ℤ) where
       → Stops refused (RefinesPartTo o n (parts_action (Assign x y ∷ rest) w operands)) n.devices e
   unfolding parts_action value_next store_next
   assign_target_stops refused o n x y e h =
-      stops_first refused o n (target_action x) (value_next y) (value_next_adds y) e h
+      stops_under refused o n (target_action x) (value_next y) (value_next_adds y) e h
 
   -- its value stops it
   pub assign_value_stops : (refused : Refusal → Type 0) {o m : Trace} (n : Trace) (x y : Tree) (at : Target)
@@ -96,4 +96,4 @@ module _ (rest : List Part) (w : ℕ) (operands : List ℤ) where
   unfolding value_next
   assign_value_stops refused {m = m} n x y at e a h =
       stops_after refused n (target_first x y at a) e
-      (stops_first refused m n (value_action y) (store_next at) (store_next_adds at) e h)
+      (stops_under refused m n (value_action y) (store_next at) (store_next_adds at) e h)

@@ -12,12 +12,12 @@ use Rattle.ptb_command.specs.Devices.{Devices, Refusal, no_exchange, nothing_ref
 use Rattle.ptb_command.specs.Traces.{Trace, trace, with_pending, still_pending, following, once_shown, state_after}
 use Rattle.ptb_command.specs.Traces.{Leaves, RefinesPart}
 use Rattle.ptb_command.specs.Stops.{Stops, RefinesPartTo, Comes, still_shows}
-use Rattle.ptb_command.proofs.Actions.{show_adds, halt_adds, refines_part_on, stops_first, stops_unrefused}
+use Rattle.ptb_command.proofs.Actions.{show_adds, halt_adds, refines_part_on, stops_unrefused}
 use Rattle.ptb_command.proofs.PendingBytes.{after_is, pending_stays, pending_goes}
 use Rattle.ptb_command.proofs.Exchanges.{exchanges_none}
 use Rattle.ptb_command.proofs.PartRefinement.{leaves_to, leaves_itself, after_nothing, freshens_nothing}
 use Rattle.ptb_command.proofs.PartRefinement.{refines_part_then}
-use Rattle.ptb_command.proofs.Stops.{Adds, stops_along, stops_after, comes_after}
+use Rattle.ptb_command.proofs.Stops.{Adds, stops_along, stops_after, comes_after, stops_under}
 
 -- nothing is done
 abbrev idle : Action (Unit {0})
@@ -83,7 +83,7 @@ module _ (o : Trace) (d : Devices) (fresh : Bool) (cells : Cells) (pending bytes
   unflushed e h =
       subst (λ (x : List ℕ). Stops nothing_refused
       (RefinesPartTo o (with_pending (still_pending x e) (trace d fresh cells)) (show bytes)) d e) (sym none)
-      (stops_first nothing_refused o (trace d fresh cells) idle (λ u. show bytes) (λ u. show_adds bytes) e h)
+      (stops_under nothing_refused o (trace d fresh cells) idle (λ u. show bytes) (λ u. show_adds bytes) e h)
 
   pub flushed_gathered : (new : List ℕ) → new ≡ pending ++ bytes → RefinesPart o (trace d fresh cells) idle idle
       → RefinesPart o (with_pending new (trace d fresh cells)) (show bytes) idle
@@ -145,7 +145,7 @@ module _ {A X : Type 0} (refused : Refusal → Type 0) (o m : Trace) (f : Action
       (s : Stops nothing_refused (RefinesPartTo m n idle) n.devices e) where
     breaks_before : (g : Action A) → Adds g → RefinesPart o m f g → Stops refused (RefinesPartTo o n f) n.devices e
     breaks_before g goes h = stops_after refused n h e
-        (stops_unrefused refused m n g e (stops_first nothing_refused m n idle (λ u. g) (λ u. goes) e s))
+        (stops_unrefused refused m n g e (stops_under nothing_refused m n idle (λ u. g) (λ u. goes) e s))
 
     pub finish_breaks : (r : Result X CommandStop) → still_shows r ≡ true → Comes refused o m f ok r
         → Stops refused (RefinesPartTo o n f) n.devices e

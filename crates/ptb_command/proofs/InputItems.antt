@@ -48,7 +48,8 @@ use Rattle.ptb_command.proofs.PartRefinement.{leaves_to, leaves_itself, after_no
 use Rattle.ptb_command.proofs.PartRefinement.{freshens_nothing, refines_part_refl}
 use Rattle.ptb_command.proofs.PartRefinement.{refines_part_then}
 use Rattle.ptb_command.proofs.Stops.{GoesForward, forward_itself, Adds, parts_add, attempt_adds, stops_after}
-use Rattle.ptb_command.proofs.Actions.{goes_adds, show_adds, then_adds, work_action_adds, refines_part_on, stops_first}
+use Rattle.ptb_command.proofs.Stops.{stops_under}
+use Rattle.ptb_command.proofs.Actions.{goes_adds, show_adds, then_adds, work_action_adds, refines_part_on}
 use Rattle.ptb_command.proofs.Assignments.{store_adds}
 use Rattle.ptb_command.proofs.Parts.{refines_part_part, stops_part}
 use Rattle.ptb_command.proofs.Pieces.{both_move, first_stops, second_stops}
@@ -171,7 +172,7 @@ module _ (n : ℤ) (at : Target) where
       → Stops refused (RefinesPartTo o k instead_value) k.devices e
       → Stops refused (RefinesPartTo o k (answer_instead n at)) k.devices e
   unfolding instead_value instead_next
-  instead_value_stops refused o k e h = stops_first refused o k instead_value instead_next instead_next_adds e h
+  instead_value_stops refused o k e h = stops_under refused o k instead_value instead_next instead_next_adds e h
 
   value_then : {o m : Trace} (v u : ℤ) → u ≡ v → RefinesPart o m instead_value (goes_on u)
       → RefinesPart o m (answer_instead n at) (instead_next v)
@@ -187,7 +188,7 @@ module _ (n : ℤ) (at : Target) where
   unfolding instead_next
   instead_digits_stops refused {m = m} k v u is e a h =
       stops_after refused k (value_then v u is a) e
-      (stops_first refused m k (show (signed_decimal v ++ newline)) (λ u. store at v) (λ u. store_adds at v) e
+      (stops_under refused m k (show (signed_decimal v ++ newline)) (λ u. store at v) (λ u. store_adds at v) e
       (first_stops (signed_decimal v) newline refused m k e h))
 
   pub instead_newline_stops : (refused : Refusal → Type 0) {o m l : Trace} (k : Trace) (v u : ℤ) → u ≡ v
@@ -198,7 +199,7 @@ module _ (n : ℤ) (at : Target) where
   unfolding instead_next
   instead_newline_stops refused {m = m} k v u is e a b h =
       stops_after refused k (value_then v u is a) e
-      (stops_first refused m k (show (signed_decimal v ++ newline)) (λ u. store at v) (λ u. store_adds at v) e
+      (stops_under refused m k (show (signed_decimal v ++ newline)) (λ u. store at v) (λ u. store_adds at v) e
       (second_stops (signed_decimal v) newline refused k e b h))
 
   pub instead_stored : {o m l j k : Trace} (v u : ℤ) → u ≡ v → RefinesPart o m instead_value (goes_on u)
@@ -267,14 +268,14 @@ module _ (said : List ℕ) (x : Tree) (prompt : List ℕ) where
       → Stops refused (RefinesPartTo o n (show said)) n.devices e
       → Stops refused (RefinesPartTo o n (ask_for said x prompt)) n.devices e
   unfolding target_next prompt_next
-  ask_said_stops refused o n e h = stops_first refused o n (show said) (λ u. target_next) (λ u. target_next_adds) e h
+  ask_said_stops refused o n e h = stops_under refused o n (show said) (λ u. target_next) (λ u. target_next_adds) e h
 
   pub ask_target_stops : (refused : Refusal → Type 0) {o m : Trace} (n : Trace) (e : CommandStop)
       → RefinesPart o m (show said) (goes_on tt) → Stops refused (RefinesPartTo m n (target_action x)) n.devices e
       → Stops refused (RefinesPartTo o n (ask_for said x prompt)) n.devices e
   unfolding target_next
   ask_target_stops refused {m = m} n e a h = stops_after refused n (said_first a) e
-      (stops_first refused m n (target_action x) prompt_next prompt_next_adds e h)
+      (stops_under refused m n (target_action x) prompt_next prompt_next_adds e h)
 
   ask_prompt_stops : (refused : Refusal → Type 0) {o m k : Trace} (n : Trace) (at : Target) (e : CommandStop)
       → RefinesPart o m (show said) (goes_on tt) → RefinesPart m k (target_action x) (goes_on at)
@@ -283,7 +284,7 @@ module _ (said : List ℕ) (x : Tree) (prompt : List ℕ) where
   unfolding prompt_next
   ask_prompt_stops refused {k = k} n at e a b h =
       stops_after refused n (target_then at a b) e
-      (stops_first refused k n (show prompt) (λ u. goes_on at) (λ u. goes_adds at) e h)
+      (stops_under refused k n (show prompt) (λ u. goes_on at) (λ u. goes_adds at) e h)
 
   -- a prompt whose text is known before its colon
   module _ (name : List ℕ) (is : prompt ≡ name ++ 58 ∷ []) where
@@ -410,7 +411,7 @@ module _ (said : List ℕ) (x : Tree) (prompt : List ℕ) where
       → Stops refused (RefinesPartTo m n (goes_on (tt {0}))) n.devices e
       → Stops refused (RefinesPartTo o n (item_action said x prompt)) n.devices e
   flush_stops refused {m = m} n at e a h = stops_after refused n (wanted at a) e
-      (stops_first refused m n (goes_on (tt {0})) (λ u. wants at) (λ u. wants_adds at) e h)
+      (stops_under refused m n (goes_on (tt {0})) (λ u. wants at) (λ u. wants_adds at) e h)
 
   -- it stops before
   pub take_ask_stops : (refused : Refusal → Type 0) (o n : Trace) (e : CommandStop)
@@ -418,7 +419,7 @@ module _ (said : List ℕ) (x : Tree) (prompt : List ℕ) where
       → Stops refused (RefinesPartTo o n (item_action said x prompt)) n.devices e
   take_ask_stops refused o n e h =
       subst (λ (f : Action (Unit {0})). Stops refused (RefinesPartTo o n f) n.devices e) (sym item_action_asks)
-      (stops_first refused o n (ask_for said x prompt) wants wants_adds e h)
+      (stops_under refused o n (ask_for said x prompt) wants wants_adds e h)
 
   -- the source can give none, so none is left
   no_line : (m : Trace) (most : ℕ) (at : Target) → most ≡ 0
@@ -551,7 +552,7 @@ module _ (said : List ℕ) (x : Tree) (prompt : List ℕ) where
       → Stops refused (RefinesPartTo o n (line_value l)) n.devices e
       → Stops refused (RefinesPartTo o n (worth at l)) n.devices e
   unfolding worth
-  worth_stops refused o n at l e h = stops_first refused o n (line_value l) (answered at) (answered_adds at) e h
+  worth_stops refused o n at l e h = stops_under refused o n (line_value l) (answered at) (answered_adds at) e h
 
   -- the code has the value v as u
   stored_refines_part : {o m n : Trace} (at : Target) (l : List ℕ) (v u : ℤ) → u ≡ v
@@ -621,7 +622,7 @@ module _ (rest : List Part) (w : ℕ) (operands : List ℤ) where
       → Stops refused (RefinesPartTo o n (item_action said x prompt)) n.devices e
       → Stops refused (RefinesPartTo o n (parts_action (Take said x prompt ∷ rest) w operands)) n.devices e
   unfolding parts_action
-  take_stops refused o n said x prompt e h = stops_first refused o n (item_action said x prompt)
+  take_stops refused o n said x prompt e h = stops_under refused o n (item_action said x prompt)
       (λ u. parts_action rest w operands) (λ u. parts_add rest w operands) e h
 
   -- all its results

@@ -15,8 +15,8 @@ use Rattle.ptb_command.specs.Devices.{Refusal}
 use Rattle.ptb_command.specs.Traces.{Trace, RefinesPart}
 use Rattle.ptb_command.specs.Stops.{Stops, RefinesPartTo}
 use Rattle.ptb_command.proofs.PartRefinement.{refines_part_refl, refines_part_then}
-use Rattle.ptb_command.proofs.Stops.{Adds, parts_add, stops_after}
-use Rattle.ptb_command.proofs.Actions.{show_adds, then_adds, work_action_adds, refines_part_on, stops_first}
+use Rattle.ptb_command.proofs.Stops.{Adds, parts_add, stops_after, stops_under}
+use Rattle.ptb_command.proofs.Actions.{show_adds, then_adds, work_action_adds, refines_part_on}
 
 -- ---- lists of parts
 
@@ -61,7 +61,7 @@ module _ (rest : List Part) (w : ℕ) (operands : List ℤ) where
       → Stops refused (RefinesPartTo o n (show s)) n.devices e
       → Stops refused (RefinesPartTo o n (parts_action (Say s ∷ rest) w operands)) n.devices e
   unfolding parts_action
-  say_stops refused o n s e h = stops_first refused o n (show s) (λ u. parts_action rest w operands)
+  say_stops refused o n s e h = stops_under refused o n (show s) (λ u. parts_action rest w operands)
       (λ u. parts_add rest w operands) e h
 
   pub newline_refines_part : {o n : Trace} → RefinesPart o n (show newline) (goes_on tt)
@@ -73,7 +73,7 @@ module _ (rest : List Part) (w : ℕ) (operands : List ℤ) where
       → Stops refused (RefinesPartTo o n (show newline)) n.devices e
       → Stops refused (RefinesPartTo o n (parts_action (NewLine ∷ rest) w operands)) n.devices e
   unfolding parts_action
-  newline_stops refused o n e h = stops_first refused o n (show newline) (λ u. parts_action rest w operands)
+  newline_stops refused o n e h = stops_under refused o n (show newline) (λ u. parts_action rest w operands)
       (λ u. parts_add rest w operands) e h
 
   -- ---- values that are shown
@@ -105,7 +105,7 @@ module _ (rest : List Part) (w : ℕ) (operands : List ℤ) where
       → Stops refused (RefinesPartTo o n (value_action x)) n.devices e
       → Stops refused (RefinesPartTo o n (parts_action (Show x ∷ rest) w operands)) n.devices e
   unfolding parts_action show_next
-  show_value_stops refused o n x e h = stops_first refused o n (value_action x) show_next show_next_adds e h
+  show_value_stops refused o n x e h = stops_under refused o n (value_action x) show_next show_next_adds e h
 
   -- the screen stops it
   pub show_stops : (refused : Refusal → Type 0) {o m : Trace} (n : Trace) (x : Tree) (v u : ℤ) → u ≡ v
@@ -116,7 +116,7 @@ module _ (rest : List Part) (w : ℕ) (operands : List ℤ) where
   unfolding show_next
   show_stops refused {m = m} n x v u k e a h =
       stops_after refused n (show_first x v a) e
-      (stops_first refused m n (show (padded_decimal w v)) (λ u. parts_action rest w operands)
+      (stops_under refused m n (show (padded_decimal w v)) (λ u. parts_action rest w operands)
       (λ u. parts_add rest w operands) e
       (subst (λ (z : ℤ). Stops refused (RefinesPartTo m n (show (padded_decimal w z))) n.devices e) k h))
 
@@ -150,7 +150,7 @@ module _ (rest : List Part) (w : ℕ) (operands : List ℤ) where
       → Stops refused (RefinesPartTo o n (parts_action (Width x mark ∷ rest) w operands)) n.devices e
   unfolding parts_action width_next
   width_value_stops refused o n x mark e h =
-      stops_first refused o n (value_action x) (width_next mark) (width_next_adds mark) e h
+      stops_under refused o n (value_action x) (width_next mark) (width_next_adds mark) e h
 
   pub width_stops : (refused : Refusal → Type 0) {o m : Trace} (n : Trace) (x : Tree) (mark : ℕ) (v u : ℤ) → u ≡ v
       → (e : CommandStop) → RefinesPart o m (value_action x) (goes_on v)
@@ -159,7 +159,7 @@ module _ (rest : List Part) (w : ℕ) (operands : List ℤ) where
   unfolding width_next
   width_stops refused {m = m} n x mark v u k e a h =
       stops_after refused n (width_first x mark v a) e
-      (stops_first refused m n (work_action (λ c. or_fault (width_of v) mark)) (λ u. parts_action rest u operands)
+      (stops_under refused m n (work_action (λ c. or_fault (width_of v) mark)) (λ u. parts_action rest u operands)
       (λ u. parts_add rest u operands) e
       (subst (λ (z : ℤ). Stops refused (RefinesPartTo m n (work_action (λ c. or_fault (width_of z) mark))) n.devices e)
       k h))
@@ -175,7 +175,7 @@ module _ (rest : List Part) (w : ℕ) (operands : List ℤ) where
       → Stops refused (RefinesPartTo o n (value_action x)) n.devices e
       → Stops refused (RefinesPartTo o n (parts_action (Operand x ∷ rest) w operands)) n.devices e
   unfolding parts_action
-  operand_stops refused o n x e h = stops_first refused o n (value_action x)
+  operand_stops refused o n x e h = stops_under refused o n (value_action x)
       (λ v. parts_action rest w (operands ++ v ∷ [])) (λ v. parts_add rest w (operands ++ v ∷ [])) e h
 
   pub letter_is : (x : ℕ) → parts_action (Letter x ∷ rest) w operands ≡ parts_action rest w operands

@@ -7,9 +7,9 @@ use Rattle.ptb_command.specs.Actions.{Action, and_then, goes_on, show}
 use Rattle.ptb_command.specs.Devices.{Refusal}
 use Rattle.ptb_command.specs.Traces.{Trace, RefinesPart}
 use Rattle.ptb_command.specs.Stops.{Stops, RefinesPartTo, Comes}
-use Rattle.ptb_command.proofs.Actions.{show_adds, refines_part_on, stops_first}
+use Rattle.ptb_command.proofs.Actions.{show_adds, refines_part_on}
 use Rattle.ptb_command.proofs.PartRefinement.{refines_part_then}
-use Rattle.ptb_command.proofs.Stops.{stops_after, comes_after}
+use Rattle.ptb_command.proofs.Stops.{stops_after, comes_after, stops_under}
 
 shown_twice : (xs ys : List ℕ) → show (xs ++ ys) ≡ and_then (show xs) (λ u. show ys)
 shown_twice xs ys =
@@ -26,7 +26,7 @@ module _ (xs ys : List ℕ) where
       → Stops refused (RefinesPartTo o n (show (xs ++ ys))) n.devices e
   first_stops refused o n e h =
       subst (λ (f : Action (Unit {0})). Stops refused (RefinesPartTo o n f) n.devices e) (sym (shown_twice xs ys))
-      (stops_first refused o n (show xs) (λ u. show ys) (λ u. show_adds ys) e h)
+      (stops_under refused o n (show xs) (λ u. show ys) (λ u. show_adds ys) e h)
 
   pub second_stops : (refused : Refusal → Type 0) {o m : Trace} (n : Trace) (e : CommandStop)
       → RefinesPart o m (show xs) (goes_on tt) → Stops refused (RefinesPartTo m n (show ys)) n.devices e

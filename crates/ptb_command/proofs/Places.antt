@@ -8,13 +8,14 @@ use Rattle.ptb_text.specs.Words.{is_over}
 use Rattle.ptb_text.specs.FoundParts.{FindingLaws}
 use Rattle.ptb_expr.specs.Reading.{Reading, Whole, Malformed, item_of}
 use Rattle.ptb_expr.specs.Spells.{SpellingLaws}
-use Rattle.ptb_command.specs.Items.{Round, Last, Onward, in_front, with_others, items}
+use Rattle.ptb_command.specs.Items.{Round, Last, Onward, with_others, items}
 use Rattle.ptb_command.specs.Commands.{Part, Command, command_at, next_start, command_and}
 use Rattle.ptb_command.specs.Commands.{after_command, command_unless, command_round, commands_from}
 use Rattle.ptb_command.specs.Commands.{commands}
 use Rattle.ptb_command.specs.Places.{IsSamePlace, next_place, start_of_command, commands_after}
 use Rattle.ptb_command.proofs.Sequences.{items_by_round}
 use Rattle.ptb_command.proofs.CommandOrder.{RoundOn, commands_on, commands_advance}
+use Rattle.ptb_command.proofs.ReadItems.{item_in_front}
 
 -- ---- indexes
 
@@ -43,10 +44,6 @@ one_before (y ∷ xs) zero x e = (y, refl)
 one_before (y ∷ xs) (suc k) x e = one_before xs k x e
 
 -- ---- rounds
-
-item_in_front : {X : Type 0} (x : X) (r : Reading (List X)) → item_of (in_front x r) ≡ x ∷ item_of r
-item_in_front x (Whole xs j) = refl
-item_in_front x (Malformed xs) = refl
 
 module _ (t : List ℕ) where
   -- a round that isn't over reads one command, and continues or is the last
