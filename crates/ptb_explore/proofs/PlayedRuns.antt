@@ -13,7 +13,7 @@ use Rattle.ptb_explore.specs.declared.fault.ExploreFault.{ExploreFault}
 use Rattle.ptb_explore.specs.declared.fault.ExploreFault.TheVariants.{Memory}
 use Rattle.ptb_explore.specs.declared.report.Report.{Report}
 use Rattle.ptb_explore.specs.Explorations.{Exploration, FoundNext, NextLeaves, PlaysOneMore, PlaysRuns, Reports}
-use Rattle.ptb_explore.specs.Explorations.{most_of, play_of, played_after, steps_left, run_steps, steps_of_runs}
+use Rattle.ptb_explore.specs.Explorations.{most_of, play_of, played_after, steps_left, steps_of_outcome, steps_of_runs}
 use Rattle.ptb_explore.specs.Listing.{fault_after}
 use Rattle.ptb_machine.specs.RunTree.{At, End, IsNextRun, begins_with, is_left, runs_after}
 use Rattle.ptb_explore.proofs.NextRuns.{left_next, left_none}
@@ -45,7 +45,7 @@ pub none_left : (under b : Answers) → is_left under End b ≡ true → ⊥
 none_left under b h = absurd (false≢true (sym (and_false (begins_with b under)) ∙ h))
 
 abbrev steps_by : Exploration → Answers → ℕ
-steps_by e a = run_steps (play_of e a)
+steps_by e a = steps_of_outcome (play_of e a)
 
 module _ (old new : Exploration) (reads : IsReader (play_of old) (most_of old)) where
   -- it was played, and is no longer left
@@ -56,8 +56,8 @@ module _ (old new : Exploration) (reads : IsReader (play_of old) (most_of old)) 
       let left : steps_left new
       ≡ steps_of_runs (steps_by old) (runs_after (play_of old) (most_of old) old.under (At a)) = ap steps_left h.now in
       let plays : new.played ≡ played_after old.kept old.played r = ap (λ (x : Exploration). x.played) h.now in
-      let run : run_steps (play_of old a) ≡ r.steps = ap run_steps reports.outcome in
-      let was : steps_left old ≡ run_steps (play_of old a) + steps_of_runs (steps_by old)
+      let run : steps_of_outcome (play_of old a) ≡ r.steps = ap steps_of_outcome reports.outcome in
+      let was : steps_left old ≡ steps_of_outcome (play_of old a) + steps_of_runs (steps_by old)
       (runs_after (play_of old) (most_of old) old.under (At a)) =
       ap (steps_of_runs (steps_by old)) (left_next (play_of old) (most_of old) reads old.under old.front a first) in
       omega (arith, left, plays, run, was)

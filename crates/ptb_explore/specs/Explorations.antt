@@ -17,7 +17,7 @@
 --     AreKeptAt f runs             the same, of what contracts see of them
 --     IsPlayed play a n            the run of these answers has so many steps
 --     IsAdded play a old new       its steps were added to those played
---     run_steps outcome            the steps of a run
+--     steps_of_outcome outcome     the steps of a run
 --     steps_of_runs steps runs     those of some runs together
 --     steps_left e                 those of the runs that are left
 --     PlaysRuns old new            no more steps were played than the runs have that are no longer left
@@ -176,10 +176,10 @@ abbrev pub IsAdded : (Answers → Outcome Finish (List ℕ)) → Answers → ℕ
 IsAdded play a old new = (f : Finish) → play a ≡ Done f [] → (new ≡ more_played old f.steps) × (f.steps < play_limit)
 
 -- of what is no run there are none
-abbrev pub run_steps : Outcome Finish (List ℕ) → ℕ
-run_steps (Done f rest) = f.steps
-run_steps (Asks n shown) = 0
-run_steps (Out n shown) = 0
+abbrev pub steps_of_outcome : Outcome Finish (List ℕ) → ℕ
+steps_of_outcome (Done f rest) = f.steps
+steps_of_outcome (Asks n shown) = 0
+steps_of_outcome (Out n shown) = 0
 
 abbrev pub steps_of_runs : (Answers → ℕ) → List Answers → ℕ
 steps_of_runs steps [] = 0
@@ -187,7 +187,7 @@ steps_of_runs steps (a ∷ list) = steps a + steps_of_runs steps list
 
 -- those of the runs that it has left
 abbrev pub steps_left : Exploration → ℕ
-steps_left e = steps_of_runs (λ a. run_steps (play_of e a)) (runs_after (play_of e) (most_of e) e.under e.front)
+steps_left e = steps_of_runs (λ a. steps_of_outcome (play_of e a)) (runs_after (play_of e) (most_of e) e.under e.front)
 
 -- no more were played than the runs have that are no longer left
 abbrev pub PlaysRuns : Exploration → Exploration → Type 0

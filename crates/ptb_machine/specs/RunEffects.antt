@@ -1,6 +1,6 @@
 -- This file defines what a turn of a run and a complete run may change of the state in which it begins.
 -- Main definition: `TurnChange`.
---     run_shown o, run_steps o         what a run has shown, and how many commands it has begun, where it is over or
+--     run_shown o, steps_of_run o      what a run has shown, and how many commands it has begun, where it is over or
 --                                      asks
 --     TurnChange limit S T             what a turn of a run may change
 use Rattle.std.specs.Prelude.{ℕ, ◌≤◌, List}

@@ -694,7 +694,7 @@ const LETTERED: Stored = (
 );
 
 // The steps of the expression at the front of a text, and the place after it.
-fn steps_of(text: &[u8]) -> Option<(Steps, usize)> {
+fn expression_steps_of(text: &[u8]) -> Option<(Steps, usize)> {
     if text.len() > 254 {
         return None;
     }
@@ -735,7 +735,7 @@ struct Plain(&'static [u8], Option<(i16, usize)>);
 impl Row<Store> for Plain {
     fn holds(&self, store: &Store) -> bool {
         let Plain(text, wanted) = *self;
-        let Some((steps, place)) = steps_of(text) else {
+        let Some((steps, place)) = expression_steps_of(text) else {
             return false;
         };
         let plainly = plain_value(steps.as_slice(), store);
@@ -838,7 +838,7 @@ fn short_value(store: &Store, steps: &[Step]) -> Option<Option<i16>> {
 impl Row<Store> for Short {
     fn holds(&self, store: &Store) -> bool {
         let Short(text, wanted) = *self;
-        let Some((steps, _)) = steps_of(text) else {
+        let Some((steps, _)) = expression_steps_of(text) else {
             return false;
         };
         let is_found = match wanted {
