@@ -25,7 +25,7 @@ pub(crate) fn first_word(cursor: &mut Cursor) -> Word
     ensures text { cursor.new.text ≡ cursor.old.text }
 {
     finding_laws();
-    cursor.bounds();
+    cursor.range_law();
     match cursor.word(Table::Commands) {
         Some(word) => word,
         None => Word::LetKw,

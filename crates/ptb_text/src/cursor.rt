@@ -73,7 +73,7 @@ impl<'a> Cursor<'a> {
 
     /// States that the place lies within the text, which has at most 255 bytes. It does nothing.
     #[inline(always)]
-    pub fn bounds(&self)
+    pub fn range_law(&self)
         ensures within { self.now.place ≤ length self.now.text }
         ensures short { length self.now.text ≤ 255 }
     {

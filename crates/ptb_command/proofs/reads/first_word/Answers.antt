@@ -10,4 +10,4 @@ returns-in-Some-clause-first c =
 
 pub returns-in-None-clause-first : goal.returns-in-None-clause-first
 returns-in-None-clause-first c =
-    rw (c.in-None.ensures.absent refl) (no_command_word _ _ c.in-None.ensures.value c.bounds.ensures.within)
+    rw (c.in-None.ensures.absent refl) (no_command_word _ _ c.in-None.ensures.value c.range_law.ensures.within)
