@@ -55,8 +55,8 @@ default_rules = record { limit = default_steps; choose = None; in_range = tt }
 abbrev pub with_limit : ℕ → Request → Request
 with_limit steps request = record request { rules = record default_rules { limit = steps } }
 
-abbrev pub choosing : (bound : ℤ) → pos 1 ≤ℤ bound → Request → Request
-choosing bound positive request =
+abbrev pub with_choose : (bound : ℤ) → pos 1 ≤ℤ bound → Request → Request
+with_choose bound positive request =
     record request { rules = record default_rules { choose = Some bound; in_range = positive } }
 
 -- its memory, and the least, are sizes that a program can have
@@ -113,7 +113,7 @@ pub record SplitRows : Type 0 where
   pub rolled_input : reply_to (splitting 1 Two) (codes "10 INPUT A;PRINT RND(9)")
       (one_line (codes "RND(2)")) ≡ reply_with
       (codes "1/2\n2/2\n")
-  pub instead_of_lines : reply_to (choosing (pos 3) (le_z_yes tt) (splitting 1 Two))
+  pub instead_of_lines : reply_to (with_choose (pos 3) (le_z_yes tt) (splitting 1 Two))
       (codes "10 INPUT A,B") [] ≡ reply_with
       (codes "1/3\n2/3\n3/3\n")
   pub no_input : reply_to (splitting 1 Two) (codes "10 INPUT A;B=RND(2)") [] ≡ reply_with (codes "none\n")
@@ -199,7 +199,8 @@ pub record ChanceRows : Type 0 where
       ≡ reply_with (codes "CHANCE 1/3 1 END 1\n3\nCHANCE 1/3 1 STOP 1\n1\nCHANCE 1/3 1 HOW 16\n20 IF A=2 P.1/0?\n")
   pub rolled_input : reply_to chances_request (codes "10 INPUT A;P.#1,A") (one_line (codes "RND(2)")) ≡ reply_with
       (codes "CHANCE 1/2 1 END 1\n1\nCHANCE 1/2 1 END 1\n2\n")
-  pub instead_of_lines : reply_to (choosing (pos 2) (le_z_yes tt) chances_request) (codes "10 INPUT A") [] ≡ reply_with
+  pub instead_of_lines : reply_to (with_choose (pos 2) (le_z_yes tt) chances_request)
+      (codes "10 INPUT A") [] ≡ reply_with
       (codes "CHANCE 1/2 1 END 3\nA:1\nCHANCE 1/2 1 END 3\nA:2\n")
   pub no_input : reply_to chances_request (codes "10 INPUT A;P.RND(2)") [] ≡ reply_with
       (codes "CHANCE 1/1 1 NOINPUT 2\nA:\n")
@@ -254,43 +255,45 @@ pub record SeedRows : Type 0 where
 
 -- answers instead of missing lines
 pub record ChoiceRows : Type 0 where
-  pub each_answer : reply_to (choosing (pos 2) (le_z_yes tt) all) (codes "10 INPUT A;PRINT A") [] ≡ reply_with
+  pub each_answer : reply_to (with_choose (pos 2) (le_z_yes tt) all) (codes "10 INPUT A;PRINT A") [] ≡ reply_with
       (codes "RUN 1 END 2 11\nA:1\n     1\n\nRUN 2 END 2 11\nA:2\n     2\n\n")
-  pub after_faulty_line : reply_to (choosing (pos 2) (le_z_yes tt) all) (codes "10 INPUT A;PRINT A")
+  pub after_faulty_line : reply_to (with_choose (pos 2) (le_z_yes tt) all) (codes "10 INPUT A;PRINT A")
       (one_line (codes ")"))
       ≡ reply_with (codes "RUN 1 END 2 21\nA:)\nWHAT?\nA:1\n     1\n\nRUN 2 END 2 21\nA:)\nWHAT?\nA:2\n     2\n\n")
-  pub index_and_value : reply_to (choosing (pos 2) (le_z_yes tt) all) (codes "10 INPUT @(RND(2)-1)") [] ≡ reply_with (
+  pub index_and_value : reply_to (with_choose (pos 2) (le_z_yes tt) all) (codes "10 INPUT @(RND(2)-1)") [] ≡ reply_with
+      (
       codes "RUN 1,1 END 1 14\n@(RND(2)-1):1\n\n" ++ codes "RUN 1,2 END 1 14\n@(RND(2)-1):2\n\n"
       ++ codes "RUN 2,1 END 1 14\n@(RND(2)-1):1\n\n" ++ codes "RUN 2,2 END 1 14\n@(RND(2)-1):2\n\n")
-  pub no_answer : reply_to (choosing (pos 2) (le_z_yes tt) (plain_request [])) (codes "10 INPUT A;PRINT A") [] ≡ run_end
+  pub no_answer : reply_to (with_choose (pos 2) (le_z_yes tt) (plain_request []))
+      (codes "10 INPUT A;PRINT A") [] ≡ run_end
       (codes "A:") 6
-  pub bad_answer : reply_to (choosing (pos 2) (le_z_yes tt) (plain_request (pos 3 ∷ [])))
+  pub bad_answer : reply_to (with_choose (pos 2) (le_z_yes tt) (plain_request (pos 3 ∷ [])))
       (codes "10 INPUT A;PRINT A") [] ≡ run_end (codes "A:") 7
-  pub answer : reply_to (choosing (pos 2) (le_z_yes tt) (plain_request (pos 2 ∷ [])))
+  pub answer : reply_to (with_choose (pos 2) (le_z_yes tt) (plain_request (pos 2 ∷ [])))
       (codes "10 INPUT A;PRINT A") [] ≡ run_end
       (codes "A:2\n     2\n") 0
   -- a line that is left is taken first
-  pub line_first : reply_to (choosing (pos 9) (le_z_yes tt) (plain_request (pos 9 ∷ [])))
+  pub line_first : reply_to (with_choose (pos 9) (le_z_yes tt) (plain_request (pos 9 ∷ [])))
       (codes "10 INPUT A,B;PRINT A-B")
       (codes "5\n") ≡ run_end (codes "A:5\nB:9\n    -4\n") 0
-  pub no_line_asked_for : reply_to (choosing (pos 9) (le_z_yes tt) all) (codes "10 PRINT 1") [] ≡ reply_with
+  pub no_line_asked_for : reply_to (with_choose (pos 9) (le_z_yes tt) all) (codes "10 PRINT 1") [] ≡ reply_with
       (codes "RUN none END 1 7\n     1\n\n")
-  pub only_answer : reply_to (choosing (pos 1) (le_z_yes tt) all) (codes "10 INPUT A") [] ≡ reply_with
+  pub only_answer : reply_to (with_choose (pos 1) (le_z_yes tt) all) (codes "10 INPUT A") [] ≡ reply_with
       (codes "RUN 1 END 1 4\nA:1\n\n")
-  pub greatest : reply_to (choosing (pos 32767) (le_z_yes tt) (plain_request (pos 32767 ∷ [])))
+  pub greatest : reply_to (with_choose (pos 32767) (le_z_yes tt) (plain_request (pos 32767 ∷ [])))
       (codes "10 INPUT A") [] ≡ run_end
       (codes "A:32767\n") 0
   -- by a seed they are drawn as for RND
-  pub drawn : reply_to (choosing (pos 6) (le_z_yes tt) (seeded 7)) (codes "10 INPUT A;PRINT RND(6)") [] ≡ run_end
+  pub drawn : reply_to (with_choose (pos 6) (le_z_yes tt) (seeded 7)) (codes "10 INPUT A;PRINT RND(6)") [] ≡ run_end
       (codes "A:3\n     5\n") 0
   -- with the steps of a limit
   pub limit : reply_to (record all { rules = record { limit = 1; choose = Some (pos 2); in_range = le_z_yes tt } })
       (codes "10 INPUT A;PRINT A") [] ≡ reply_with (codes "RUN 1 LIMIT 1 4\nA:1\n\nRUN 2 LIMIT 1 4\nA:2\n\n")
-  pub after_first : reply_to (choosing (pos 2) (le_z_yes tt) (listed_after (pos 1 ∷ [])))
+  pub after_first : reply_to (with_choose (pos 2) (le_z_yes tt) (listed_after (pos 1 ∷ [])))
       (codes "10 INPUT A;PRINT A") [] ≡ reply_with (codes "RUN 2 END 2 11\nA:2\n     2\n\n")
-  pub first_one : reply_to (choosing (pos 2) (le_z_yes tt) (all_from None (Some 1)))
+  pub first_one : reply_to (with_choose (pos 2) (le_z_yes tt) (all_from None (Some 1)))
       (codes "10 INPUT A;PRINT A") [] ≡ reply_with (codes "RUN 1 END 2 11\nA:1\n     1\n\n")
-  pub after_none : reply_to (choosing (pos 2) (le_z_yes tt) (listed_after (pos 3 ∷ [])))
+  pub after_none : reply_to (with_choose (pos 2) (le_z_yes tt) (listed_after (pos 3 ∷ [])))
       (codes "10 INPUT A;PRINT A") [] ≡ refusal notes.NoRun
 
 -- programs that run once
@@ -449,7 +452,7 @@ pub record SampleRows : Type 0 where
   pub same_lines : reply_to (sampling 7 2 One) (codes "10 INPUT A")
       (lines_text (codes "RND(6)" ∷ codes "5" ∷ [])) ≡ reply_with
       (codes "RUN 3 END 1 9\nA:RND(6)\n\n" ++ codes "RUN 5 END 1 9\nA:RND(6)\n\n")
-  pub instead_of_lines : reply_to (choosing (pos 6) (le_z_yes tt) (sampling 7 1 Two))
+  pub instead_of_lines : reply_to (with_choose (pos 6) (le_z_yes tt) (sampling 7 1 Two))
       (codes "10 INPUT A") [] ≡ reply_with
       (codes "RUN 3/6 END 1 4\nA:3\n\n")
   pub no_input : reply_to (sampling 7 1 Two) (codes "10 INPUT A") [] ≡ reply_with (codes "RUN none NOINPUT 1 2\nA:\n")
