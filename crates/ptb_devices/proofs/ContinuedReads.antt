@@ -26,21 +26,21 @@ use Rattle.ptb_devices.specs.CutLineLaws.{whole_lines-append, last_piece-append}
 use Rattle.ptb_devices.specs.Sources.{Loses}
 use Rattle.ptb_devices.specs.Inputs.{InputState, InputNow, open_piece, cut_bytes}
 use Rattle.ptb_devices.specs.Inputs.{ends_within, lines_to_end, known_lines, CutsLine, CutsAll}
-use Rattle.ptb_devices.specs.Inputs.{TakesLine, asked_at, asked, ReadsOn}
+use Rattle.ptb_devices.specs.Inputs.{TakesLine, missed_at, missed_in, ReadsOn}
 use Rattle.ptb_devices.specs.InputLaws.{ReadsOn_none, take-split}
 use Rattle.ptb_devices.proofs.CutLines.{Cuts_more}
 
 -- ---- lines that are asked for
 
 -- at most one is asked for without success, and no more once a piece is given
-asked_one : (end : InputEnd) (s t : Bool) → asked_at end s ≤ 1 + asked_at end t
+asked_one : (end : InputEnd) (s t : Bool) → missed_at end s ≤ 1 + missed_at end t
 asked_one Open s t = omega arith
 asked_one Ended true t = omega arith
 asked_one Ended false t = omega arith
 asked_one Failed s t = omega arith
 asked_one Exceeded s t = omega arith
 
-asked_open : (end : InputEnd) (s : Bool) → asked_at end s ≤ 0 + asked_at end false
+asked_open : (end : InputEnd) (s : Bool) → missed_at end s ≤ 0 + missed_at end false
 asked_open Open s = omega arith
 asked_open Ended true = omega arith
 asked_open Ended false = omega arith
@@ -126,7 +126,7 @@ ReadsOn_cut : (wanted : ℕ) (m : InputNow) (given : Bool) (q : Option (List ℕ
     (ls : List (List ℕ))
     → m.state.is_given ≡ false → m.state.waiting ≡ front ++ rest → Cuts m.state.piece front ls (left_open given q)
     → length (line_of_piece (left_open given q)) + length ls ≤ length front + length (line_of_piece m.state.piece)
-    → asked m.state ≤ length ls + asked_at m.state.end given
+    → missed_in m.state ≤ length ls + missed_at m.state.end given
     → ReadsOn wanted m ls (record m { state = record m.state { piece = q; is_given = given; waiting = rest } })
 ReadsOn_cut wanted m given q front rest ls kept whole c fewer asks = record {
   loses = loses_cut m.state given q front rest ls m.bytes kept whole c;

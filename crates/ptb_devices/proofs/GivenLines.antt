@@ -11,7 +11,7 @@ use Rattle.ptb_text.specs.declared.device_fault.DeviceFault.TheVariants.{Read, T
 use Rattle.ptb_devices.specs.CutLines.{kept_bytes}
 use Rattle.ptb_devices.specs.Sources.{IsSourceFault, Loses, NoneLeft, ready_lines}
 use Rattle.ptb_devices.specs.Inputs.{InputState, InputNow, open_piece, most_lines, known_lines}
-use Rattle.ptb_devices.specs.Inputs.{CutsLine, CutsAll, TakesLine, TakesWhole, asked_at, asked}
+use Rattle.ptb_devices.specs.Inputs.{CutsLine, CutsAll, TakesLine, TakesWhole, missed_at, missed_in}
 use Rattle.ptb_devices.specs.Inputs.{ReadsOn, fault_at}
 use Rattle.ptb_devices.specs.InputLaws.{ReadsOn_then}
 use Rattle.ptb_devices.proofs.ContinuedReads.{ReadsOn_forget, ReadsOn_line, ReadsOn_whole, ReadsOn_all, ReadsOn_last}
@@ -31,10 +31,10 @@ refused_by_source Exceeded fault e = let same : TooLong ≡ fault = cc in subst 
 
 -- a fault is answered where a line was asked for and could not be given
 pub fault_reads : (m n : InputNow) (fault : DeviceFault) → fault_at n.state.end ≡ Some fault → ReadsOn 1 m [] n
-    → ReadsOn (asked n.state) m [] n
+    → ReadsOn (missed_in n.state) m [] n
 fault_reads m n fault e reads =
     subst (λ (k : ℕ). ReadsOn k m [] n) (sym (by_end n.state.end n.state.is_given e)) reads where
-      by_end : (end : InputEnd) (given : Bool) → fault_at end ≡ Some fault → asked_at end given ≡ 1
+      by_end : (end : InputEnd) (given : Bool) → fault_at end ≡ Some fault → missed_at end given ≡ 1
       by_end Open given e = absurd cc
       by_end Ended given e = absurd cc
       by_end Failed given e = refl
@@ -42,7 +42,7 @@ fault_reads m n fault e reads =
 
 -- a line that is given was asked for with success
 pub given_asked : (end old : InputEnd) (given : Bool) → fault_at end ≡ fault_at old
-    → asked_at end true ≤ asked_at old given
+    → missed_at end true ≤ missed_at old given
 given_asked Open old given e = omega arith
 given_asked Ended old given e = omega arith
 given_asked Failed Open given e = absurd cc
@@ -55,30 +55,30 @@ given_asked Exceeded Failed given e = omega arith
 given_asked Exceeded Exceeded given e = omega arith
 
 pub cut_asked : (a b : InputState) (old : InputState) → CutsLine a b → fault_at a.end ≡ fault_at old.end
-    → asked b ≤ asked old
-cut_asked a b old cuts same = subst (λ (s : InputState). asked s ≤ asked old) (sym cuts.rest)
+    → missed_in b ≤ missed_in old
+cut_asked a b old cuts same = subst (λ (s : InputState). missed_in s ≤ missed_in old) (sym cuts.rest)
     (given_asked a.end old.end old.is_given same)
 
 -- before the end, no line is asked for without success
-open_unasked : (s : InputState) → s.end ≡ Open → asked s ≡ 0
-open_unasked s e = ap (λ end. asked_at end s.is_given) e
+open_unasked : (s : InputState) → s.end ≡ Open → missed_in s ≡ 0
+open_unasked s e = ap (λ end. missed_at end s.is_given) e
 
 -- a line that is at hand is given before the end
 pub taken_ready : (m : InputNow) (a b : InputState) (r : Option (Bor (List ℕ))) → m.state.end ≡ Open
     → a ≡ record m.state { piece = open_piece m.state; is_given = false } → TakesWhole a r b
-    → ReadsOn (asked b) m (ready_lines r) (record m { state = b }) × (asked b ≤ asked m.state)
+    → ReadsOn (missed_in b) m (ready_lines r) (record m { state = b }) × (missed_in b ≤ missed_in m.state)
 taken_ready m a b None goes is takes =
     let same : b ≡ record m.state { piece = open_piece m.state; is_given = false } = takes ∙ is in
-    let none : asked b ≡ 0 = open_unasked b (ap (λ (s : InputState). s.end) same ∙ goes) in (
-      subst (λ (s : InputState). ReadsOn (asked b) m [] (record m { state = s })) (sym same)
-          (ReadsOn_forget (asked b) m),
+    let none : missed_in b ≡ 0 = open_unasked b (ap (λ (s : InputState). s.end) same ∙ goes) in (
+      subst (λ (s : InputState). ReadsOn (missed_in b) m [] (record m { state = s })) (sym same)
+          (ReadsOn_forget (missed_in b) m),
       omega (arith, none),
     )
 taken_ready m a b (Some line) goes is takes =
     let n : InputState = record m.state { piece = open_piece m.state; is_given = false } in
     let whole : TakesLine n line.now b = subst (λ (s : InputState). TakesLine s line.now b) is takes in
-    let none : asked b ≡ 0 = open_unasked b (ap (λ (s : InputState). s.end) whole.rest ∙ goes) in (
-      ReadsOn_then 1 0 (asked b) m (record m { state = n }) (record m { state = b }) [] (line.now ∷ [])
+    let none : missed_in b ≡ 0 = open_unasked b (ap (λ (s : InputState). s.end) whole.rest ∙ goes) in (
+      ReadsOn_then 1 0 (missed_in b) m (record m { state = n }) (record m { state = b }) [] (line.now ∷ [])
           (ReadsOn_forget 1 m) (ReadsOn_whole 0 (record m { state = n }) line.now b refl whole)
           (omega arith) (omega arith),
       omega (arith, none),
@@ -96,9 +96,9 @@ true_or_false e f = absurd (let clash : false ≡ true = sym e ∙ f in cc)
 module _ (m n : InputNow) (reads : ReadsOn 1 m [] n) where
   -- one is cut from what has come
   pub line_given : (b : InputState) → n.state.is_given ≡ false → CutsLine n.state b
-      → ReadsOn (asked b) m (kept_bytes b.piece ∷ []) (record n { state = b })
+      → ReadsOn (missed_in b) m (kept_bytes b.piece ∷ []) (record n { state = b })
   line_given b kept cuts =
-      ReadsOn_then 1 0 (asked b) m n (record n { state = b }) [] (kept_bytes b.piece ∷ []) reads
+      ReadsOn_then 1 0 (missed_in b) m n (record n { state = b }) [] (kept_bytes b.piece ∷ []) reads
       (ReadsOn_line 0 n b kept cuts) (omega arith) (omega arith)
 
   -- none is complete in it
@@ -136,17 +136,18 @@ module _ (m n : InputNow) (reads : ReadsOn 1 m [] n) where
 
     -- the last piece is given if one has begun
     pub last_given : (b : InputState) (t : Bool) → b ≡ record n.state { is_given = t } → t ≡ true → IsSome n.state.piece
-        → ReadsOn (asked b) m (kept_bytes b.piece ∷ []) (record n { state = b })
+        → ReadsOn (missed_in b) m (kept_bytes b.piece ∷ []) (record n { state = b })
     last_given b t is true_is begun =
         let all : b ≡ at_end true = is ∙ at_end-is t ∙ ap at_end true_is in
-        subst (λ (s : InputState). ReadsOn (asked s) m (kept_bytes s.piece ∷ []) (record n { state = s })) (sym all)
+        subst (λ (s : InputState). ReadsOn (missed_in s) m (kept_bytes s.piece ∷ []) (record n { state = s })) (sym all)
         (last_at n.state.piece begun
         (subst (λ (s : InputState). ReadsOn 1 m [] (record n { state = s })) at_end-state reads))
 
     -- and none is asked for without success
     pub last_asked : (b : InputState) (t : Bool) → b ≡ record n.state { is_given = t } → t ≡ true → (k : ℕ)
-        → asked b ≤ k
-    last_asked b t is true_is k = subst (λ (s : InputState). asked s ≤ k) (sym (is ∙ at_end-is t ∙ ap at_end true_is))
+        → missed_in b ≤ k
+    last_asked b t is true_is k = subst (λ (s : InputState). missed_in s ≤ k)
+        (sym (is ∙ at_end-is t ∙ ap at_end true_is))
         (omega arith)
 
     none_at : (p : Option (List ℕ)) (a : Option (List ℕ)) → (IsSome p → ⊥)
@@ -178,10 +179,10 @@ module _ (m n : InputNow) (reads : ReadsOn 1 m [] n) where
     -- else no line is left
     pub none_given : (b : InputState) (t : Bool) → b ≡ record n.state { is_given = t } → t ≡ false
         → (IsSome n.state.piece → ⊥)
-        → ReadsOn (asked b) m [] (record n { state = b }) × NoneLeft (known_lines (record n { state = b }))
+        → ReadsOn (missed_in b) m [] (record n { state = b }) × NoneLeft (known_lines (record n { state = b }))
     none_given b t is false_is unstarted =
         let all : b ≡ at_end false = is ∙ at_end-is t ∙ ap at_end false_is in
-        subst (λ (s : InputState). ReadsOn (asked s) m [] (record n { state = s })
+        subst (λ (s : InputState). ReadsOn (missed_in s) m [] (record n { state = s })
         × NoneLeft (known_lines (record n { state = s }))) (sym all) (
           subst (λ (s : InputState). ReadsOn 1 m [] (record n { state = s })) at_end-state reads,
           none_at n.state.piece n.bytes unstarted,

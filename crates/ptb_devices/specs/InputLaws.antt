@@ -22,7 +22,7 @@ use Rattle.ptb_devices.specs.CutLineLaws.{whole_lines-append, last_piece-append}
 use Rattle.ptb_devices.specs.Sources.{Loses, NoneLeft}
 use Rattle.ptb_devices.specs.Inputs.{InputNow, open_piece, cut_at_end, ends_within}
 use Rattle.ptb_devices.specs.Inputs.{lines_to_end, most_to_come, most_lines, known_lines}
-use Rattle.ptb_devices.specs.Inputs.{IsReadAhead, ReadsOn, asked}
+use Rattle.ptb_devices.specs.Inputs.{IsReadAhead, ReadsOn, missed_in}
 
 -- ---- lines, failures and bytes over several calls
 
@@ -258,7 +258,8 @@ module _ (first_wanted second_wanted wanted : ℕ) (m n o : InputNow) (xs ys : L
     exceeded = λ e. more_exceeded (second.exceeded e);
   }
 
-pub ReadsOn_more : (m n o : InputNow) (xs ys : List (List ℕ)) → ReadsOn (asked n.state) m xs n
-    → ReadsOn (asked o.state) n ys o → ReadsOn (asked o.state) m (xs ++ ys) o
+pub ReadsOn_more : (m n o : InputNow) (xs ys : List (List ℕ)) → ReadsOn (missed_in n.state) m xs n
+    → ReadsOn (missed_in o.state) n ys o → ReadsOn (missed_in o.state) m (xs ++ ys) o
 ReadsOn_more m n o xs ys first second =
-    ReadsOn_then (asked n.state) (asked o.state) (asked o.state) m n o xs ys first second second.asks (omega arith)
+    ReadsOn_then (missed_in n.state) (missed_in o.state) (missed_in o.state) m n o xs ys first second second.asks
+        (omega arith)

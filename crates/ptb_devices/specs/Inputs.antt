@@ -16,7 +16,7 @@
 --                                    last read
 --     ReadsOn wanted m given n       the input continued from m to n, and gave these lines; `wanted` more were asked
 --                                    for
---     asked a                        how many lines were asked for that could not be given
+--     missed_in a                    how many lines were asked for that could not be given
 --     fault_at end, Refuses end f    the fault that is answered from there on
 use Rattle.std.specs.Prelude.{◌≡◌, ℕ, ◌+◌, ◌-◌, ◌<◌, ◌≤◌, ◌⊎◌, nat_lt, Bool, true, false}
 use Rattle.std.specs.Prelude.{if◌then◌else◌, List, [], ◌∷◌, ◌++◌, length, take, Option, Some, None}
@@ -151,15 +151,15 @@ abbrev pub IsDrained : InputState → Type 0
 IsDrained a = (a.end ≡ Open → ⊥) → a.waiting ≡ []
 
 -- a line that was asked for could not be given once the end or a fault has come, unless the last piece was given
-abbrev pub asked_at : InputEnd → Bool → ℕ
-asked_at Open given = 0
-asked_at Ended true = 0
-asked_at Ended false = 1
-asked_at Failed given = 1
-asked_at Exceeded given = 1
+abbrev pub missed_at : InputEnd → Bool → ℕ
+missed_at Open given = 0
+missed_at Ended true = 0
+missed_at Ended false = 1
+missed_at Failed given = 1
+missed_at Exceeded given = 1
 
-abbrev pub asked : InputState → ℕ
-asked a = asked_at a.end a.is_given
+abbrev pub missed_in : InputState → ℕ
+missed_in a = missed_at a.end a.is_given
 
 pub record ReadsOn (wanted : ℕ) (m : InputNow) (given : List (List ℕ)) (n : InputNow) : Type 0 where
   pub loses : Loses (known_lines m) (known_lines n) given
@@ -173,7 +173,7 @@ pub record ReadsOn (wanted : ℕ) (m : InputNow) (given : List (List ℕ)) (n : 
   pub stays : (m.state.end ≡ Open → ⊥) → (n.state.end ≡ m.state.end) × (taken ≡ [])
   pub drained : IsDrained m.state → IsDrained n.state
   -- a line that could not be given before is given, or can't be given later
-  pub asks : asked m.state ≤ length given + asked n.state
+  pub asks : missed_in m.state ≤ length given + missed_in n.state
   -- until the end has come, the lines given are those that the bytes end
   pub cut : (n.state.end ≡ Ended → ⊥) → Cuts (open_piece m.state) (m.state.waiting ++ take (m.state.left - 1) taken)
       (given ++ whole_lines (open_piece n.state) n.state.waiting) (last_piece (open_piece n.state) n.state.waiting)

@@ -6,7 +6,7 @@
 use Rattle.std.specs.Prelude.{◌≡◌, ℕ, List, Option}
 use Rattle.std.specs.Borrow.{MutBor}
 use Rattle.ptb_devices.specs.declared.reader_lines.ReaderLines.{ReaderLines}
-use Rattle.ptb_devices.specs.Inputs.{InputState, InputNow, input_now, ReadsOn, asked}
+use Rattle.ptb_devices.specs.Inputs.{InputState, InputNow, input_now, ReadsOn, missed_in}
 
 abbrev pub line_reader : {R : Type 0} → ReaderLines R → MutBor R
 line_reader s = s.reader
@@ -21,5 +21,5 @@ input_of remaining given failures s = input_now remaining given failures (line_i
 pub record GivesFrom {R : Type 0} (remaining : R → Option (List ℕ)) (counted failures : R
     → ℕ) (old : ReaderLines R) (given : List (List ℕ)) (new : ReaderLines R) : Type 0 where
   pub same_borrow : (line_reader new).ghost_name ≡ (line_reader old).ghost_name
-  pub reads : ReadsOn (asked (line_input new)) (input_of remaining counted failures old) given
+  pub reads : ReadsOn (missed_in (line_input new)) (input_of remaining counted failures old) given
       (input_of remaining counted failures new)

@@ -1,7 +1,7 @@
 // This file gives the lines of an input one by one, while it is read.
 
 ghost use Rattle.std.specs.Prelude.{◌≡◌};
-ghost use Rattle.ptb_devices.specs.Inputs.{asked, fresh_input, fault_at, known_lines, most_lines, Refuses};
+ghost use Rattle.ptb_devices.specs.Inputs.{missed_in, fresh_input, fault_at, known_lines, most_lines, Refuses};
 ghost use Rattle.ptb_devices.specs.Readers.{line_reader, line_input, input_of, GivesFrom};
 ghost use Rattle.ptb_devices.specs.InputLaws.{none_known};
 ghost use Rattle.ptb_devices.specs.ReaderLaws.{GivesFrom_none, GivesFrom_more};
@@ -51,7 +51,7 @@ impl<'a, R: Read> LineSource for ReaderLines<'a, R> {
 
     ghost gives = { GivesFrom R.remaining R.given R.failures };
 
-    ghost missed = { λ s. asked (line_input s) };
+    ghost missed = { λ s. missed_in (line_input s) };
 
     ghost refused = { λ s fault. Refuses (line_input s).end fault };
 

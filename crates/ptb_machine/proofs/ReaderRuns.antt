@@ -18,7 +18,7 @@ use Rattle.ptb_command.specs.Devices.{devices, refused_by}
 use Rattle.ptb_command.specs.Stops.{NotMissed, UnlessMissed}
 use Rattle.ptb_text.specs.declared.device_fault.DeviceFault.{DeviceFault}
 use Rattle.ptb_devices.specs.declared.reader_lines.ReaderLines.{ReaderLines}
-use Rattle.ptb_devices.specs.Inputs.{InputNow, InputState, ReadsOn, Refuses, asked, fault_at}
+use Rattle.ptb_devices.specs.Inputs.{InputNow, InputState, ReadsOn, Refuses, missed_in, fault_at}
 use Rattle.ptb_devices.specs.Inputs.{fresh_input, known_lines, most_lines}
 use Rattle.ptb_devices.specs.InputLaws.{none_known}
 use Rattle.ptb_devices.specs.Readers.{GivesFrom, input_of, line_input, line_reader}
@@ -76,8 +76,8 @@ module _ {R W : Type 0} (remaining : R → Option (List ℕ)) (counted failures 
       (known_lines (input_of remaining counted failures later))) p (choosing rules choose range)
       (devices c (state_of contents written screen) (most_lines (line_input source)) rules.choose [])
       (devices d (state_of contents written screen_later) (most_lines (line_input later)) rules.choose lines) ended)
-      (missed : UnlessMissed (Refuses (line_input later).end) (NotMissed rules.choose (asked (line_input source))
-      (asked (line_input later)) (most_lines (line_input later))) (run_miss ended)) where
+      (missed : UnlessMissed (Refuses (line_input later).end) (NotMissed rules.choose (missed_in (line_input source))
+      (missed_in (line_input later)) (most_lines (line_input later))) (run_miss ended)) where
     -- the input as the source leaves it
     abbrev now : InputNow
     now = input_of remaining counted failures later
@@ -90,7 +90,7 @@ module _ {R W : Type 0} (remaining : R → Option (List ℕ)) (counted failures 
         RanOn p rules refuses c d (reads_of remaining counted failures i j) (writes_of contents written w v) result
 
     -- what the source took of the input
-    on : ReadsOn (asked (line_input later)) (fresh (remaining i) (counted i) (failures i)) lines now
+    on : ReadsOn (missed_in (line_input later)) (fresh (remaining i) (counted i) (failures i)) lines now
     on = taken_by remaining counted failures source later lines i state reader gives
 
     -- the result, where it is noted whether memory was refused
@@ -130,7 +130,7 @@ module _ {R W : Type 0} (remaining : R → Option (List ℕ)) (counted failures 
         → HasLine p rules answers (reads_of remaining counted failures i j) end
     has_line end h answers goes = record {
       at_limit = λ is.
-          of_input (λ ls. end.line ≡ stopping_line p ls rules (answers ls)) (asked (line_input later)) (counted i)
+          of_input (λ ls. end.line ≡ stopping_line p ls rules (answers ls)) (missed_in (line_input later)) (counted i)
           (failures i) now lines
           (led_line p rules answers refuses noticed c d (state_of contents written screen) (state_of contents written
           screen_later) (most_lines (line_input source)) (most_lines (line_input later)) lines
@@ -150,10 +150,10 @@ module _ {R W : Type 0} (remaining : R → Option (List ℕ)) (counted failures 
 
     -- and asked for one more at most where it says so
     unmissed : UnlessMissed (Refuses (line_input later).end)
-        (NotMissed rules.choose 0 (asked (line_input later)) (most_lines (line_input later))) (run_miss ended)
+        (NotMissed rules.choose 0 (missed_in (line_input later)) (most_lines (line_input later))) (run_miss ended)
     unmissed =
-        subst (λ (s : InputState). UnlessMissed (Refuses (line_input later).end) (NotMissed rules.choose (asked s)
-        (asked (line_input later)) (most_lines (line_input later))) (run_miss ended))
+        subst (λ (s : InputState). UnlessMissed (Refuses (line_input later).end) (NotMissed rules.choose (missed_in s)
+        (missed_in (line_input later)) (most_lines (line_input later))) (run_miss ended))
         state missed
 
     -- the source has come to no fault
@@ -168,18 +168,18 @@ module _ {R W : Type 0} (remaining : R → Option (List ℕ)) (counted failures 
               let none_after = between answers goes [] (λ _. refl) in
               record {
                 ended =
-                    shows_input contents written p rules answers refuses w v result (asked (line_input later))
+                    shows_input contents written p rules answers refuses w v result (missed_in (line_input later))
                     (counted i) (failures i) now lines (between answers goes) (remaining i) on;
                 broken_off = where_err result _
-                    (begins_input contents written p rules answers refuses w v result (asked (line_input later))
+                    (begins_input contents written p rules answers refuses w v result (missed_in (line_input later))
                     (counted i) (failures i) now lines (between answers goes) (remaining i) on);
                 unread = λ e. absurd (unread e);
                 asked = (
                   on.taken,
                   subst (λ (x : R). Consumes (remaining i) (remaining x) on.taken) same on.consumed,
-                  reads_for p rules answers (asked (line_input later)) (counted i) (failures i) now lines
+                  reads_for p rules answers (missed_in (line_input later)) (counted i) (failures i) now lines
                       (takes answers goes) result
-                      (noted_within noticed rules ended (asked (line_input later)) (most_lines (line_input later))
+                      (noted_within noticed rules ended (missed_in (line_input later)) (most_lines (line_input later))
                       (wanted_within (line_input later) (most_lines (line_input later)) rules ended unmissed))
                       (remaining i) on,
                 );
@@ -193,7 +193,7 @@ module _ {R W : Type 0} (remaining : R → Option (List ℕ)) (counted failures 
                 | inr asks ↦ inr asks.0
               ];
           memory = λ answers goes is.
-              stops_input contents written p rules answers refuses w v result (asked (line_input later)) (counted i)
+              stops_input contents written p rules answers refuses w v result (missed_in (line_input later)) (counted i)
               (failures i) now lines (between answers goes) is (remaining i) on;
           reads = record {
             within =
@@ -223,7 +223,7 @@ module _ {R W : Type 0} (remaining : R → Option (List ℕ)) (counted failures 
           screen_later) (most_lines (line_input source)) (most_lines (line_input later)) lines
           (Refuses (line_input later).end) (known_lines now) ended goes ran (none_known now)
           (fault_without_memory (line_input later).end)
-          (NotMissed rules.choose 0 (asked (line_input later)) (most_lines (line_input later)))
+          (NotMissed rules.choose 0 (missed_in (line_input later)) (most_lines (line_input later)))
           (fault_missed (line_input later) rules.choose fault is) unmissed (more_at_fault (line_input later) fault is))
 
       pub ran_unread : (answer : RunFault) → answer ≡ fault_of_device fault → IsRan (Err answer)
@@ -234,12 +234,13 @@ module _ {R W : Type 0} (remaining : R → Option (List ℕ)) (counted failures 
             plays = λ answers goes. record {
               ended = tt;
               broken_off =
-                  begins_input contents written p rules answers refuses w v result (asked (line_input later))
+                  begins_input contents written p rules answers refuses w v result (missed_in (line_input later))
                   (counted i) (failures i) now lines (between answers goes) (remaining i) on;
               unread = λ _. (
                 on.taken,
                 subst (λ (x : R). Consumes (remaining i) (remaining x) on.taken) same on.consumed,
-                shows_come contents written p (without_choose rules) answers w v (asked (line_input later)) (counted i)
+                shows_come contents written p (without_choose rules) answers w v (missed_in (line_input later))
+                    (counted i)
                     (failures i) now lines (remaining i) on fault is (dry answers goes),
               );
               asked = (
@@ -248,7 +249,7 @@ module _ {R W : Type 0} (remaining : R → Option (List ℕ)) (counted failures 
                 subst (λ (f : RunFault). IfSome (remaining i)
                     (λ b. ReadsFor on.taken (lines_wanted rules.choose (length (input_lines b))
                     (lines_taken p (input_lines b) rules (answers (input_lines b))) (Err f)))) (sym told)
-                    (reads_for p rules answers (asked (line_input later)) (counted i) (failures i) now lines
+                    (reads_for p rules answers (missed_in (line_input later)) (counted i) (failures i) now lines
                     (takes answers goes) (Err (fault_of_device fault))
                     (wanted_at_fault (line_input later) (most_lines (line_input later)) rules fault is)
                     (remaining i) on),

@@ -17,7 +17,7 @@ use Rattle.ptb_devices.specs.CutLines.{kept_bytes, whole_lines, last_piece, line
 use Rattle.ptb_devices.specs.CutLineLaws.{whole_lines-append}
 use Rattle.ptb_devices.specs.Inputs.{InputState, InputNow, fresh_input, open_piece, lines_left}
 use Rattle.ptb_devices.specs.Inputs.{lines_to_end, known_lines, most_to_come, most_lines, input_now}
-use Rattle.ptb_devices.specs.Inputs.{ReadsOn, Refuses, asked, fault_at, IsReadAhead, asked_at}
+use Rattle.ptb_devices.specs.Inputs.{ReadsOn, Refuses, missed_in, fault_at, IsReadAhead, missed_at}
 use Rattle.ptb_devices.specs.InputLaws.{take-split, none_known}
 use Rattle.ptb_devices.specs.declared.reader_lines.ReaderLines.{ReaderLines}
 use Rattle.ptb_devices.specs.Readers.{line_input, line_reader, input_of, GivesFrom}
@@ -256,9 +256,9 @@ module _ (wanted : ℕ) (known : Option (List ℕ)) (x f : ℕ) (n : InputNow) (
 
 -- ---- how far the input was read
 
-asked_one : (a : InputState) → asked a ≤ 1
+asked_one : (a : InputState) → missed_in a ≤ 1
 asked_one a = by_end a.end a.is_given where
-  by_end : (end : InputEnd) (given : Bool) → asked_at end given ≤ 1
+  by_end : (end : InputEnd) (given : Bool) → missed_at end given ≤ 1
   by_end Open given = omega arith
   by_end Ended true = omega arith
   by_end Ended false = omega arith
@@ -266,17 +266,17 @@ asked_one a = by_end a.end a.is_given where
   by_end Exceeded given = omega arith
 
 -- where a fault has come, a line was asked for without success
-pub fault_asked : (a : InputState) (fault : DeviceFault) → fault_at a.end ≡ Some fault → asked a ≤ 0 → ⊥
+pub fault_asked : (a : InputState) (fault : DeviceFault) → fault_at a.end ≡ Some fault → missed_in a ≤ 0 → ⊥
 fault_asked a fault e h = by_end a.end a.is_given e h where
-  by_end : (end : InputEnd) (given : Bool) → fault_at end ≡ Some fault → asked_at end given ≤ 0 → ⊥
+  by_end : (end : InputEnd) (given : Bool) → fault_at end ≡ Some fault → missed_at end given ≤ 0 → ⊥
   by_end Open given e h = absurd (let clash : None ≡ Some fault = e in cc)
   by_end Ended given e h = absurd (let clash : None ≡ Some fault = e in cc)
   by_end Failed given e h = omega (arith, h)
   by_end Exceeded given e h = omega (arith, h)
 
 -- by how the run has ended, where it missed no line
-missed_within : (a : InputState) (P : Type 0) → (P → asked a ≤ 0) → (result : Result Ending RunFault)
-    → UnlessMissed (Refuses a.end) P (run_miss result) → (k : ℕ) → k + asked a ≤ ending_wanted k result
+missed_within : (a : InputState) (P : Type 0) → (P → missed_in a ≤ 0) → (result : Result Ending RunFault)
+    → UnlessMissed (Refuses a.end) P (run_miss result) → (k : ℕ) → k + missed_in a ≤ ending_wanted k result
 missed_within a P few (Ok endings.End) m k = omega (arith, few m)
 missed_within a P few (Ok endings.Stop) m k = omega (arith, few m)
 missed_within a P few (Ok endings.What) m k = omega (arith, few m)
@@ -298,46 +298,47 @@ WantsWithin rules result wanted most = (given all k : ℕ) → given ≤ k → k
     → given + wanted ≤ lines_wanted rules.choose all k result
 
 wanted_by_choose : (a : InputState) (most : ℕ) (choose : Option ℤ) (result : Result Ending RunFault)
-    → UnlessMissed (Refuses a.end) (NotMissed choose 0 (asked a) most) (run_miss result)
+    → UnlessMissed (Refuses a.end) (NotMissed choose 0 (missed_in a) most) (run_miss result)
     → (given all k : ℕ) → given ≤ k → k ≤ all → (most ≡ 0 → all ≤ given)
-    → given + asked a ≤ lines_wanted choose all k result
+    → given + missed_in a ≤ lines_wanted choose all k result
 wanted_by_choose a most None result m given all k fits part over =
-    let within = missed_within a (asked a ≤ 0) (λ q. q) result m k in omega (arith, fits, within)
+    let within = missed_within a (missed_in a ≤ 0) (λ q. q) result m k in omega (arith, fits, within)
 wanted_by_choose a most (Some n) result m given all k fits part over = by_all (k == all) refl where
   wants : Bool → ℕ
   wants same = if same then k + 1 else ending_wanted k result
 
   -- fewer lines were taken than there are, so one can still be given
-  few : (k == all) ≡ false → (asked a ≤ 0) ⊎ (most ≡ 0) → asked a ≤ 0
+  few : (k == all) ≡ false → (missed_in a ≤ 0) ⊎ (most ≡ 0) → missed_in a ≤ 0
   few differs (inl q) = q
   few differs (inr none) = absurd (eqb-false k all differs (omega (arith, over none, fits, part)))
 
-  by_all : (same : Bool) → (k == all) ≡ same → given + asked a ≤ wants same
+  by_all : (same : Bool) → (k == all) ≡ same → given + missed_in a ≤ wants same
   by_all true e = omega (arith, fits, asked_one a)
-  by_all false e = let within = missed_within a ((asked a ≤ 0) ⊎ (most ≡ 0)) (few e) result m k in
+  by_all false e = let within = missed_within a ((missed_in a ≤ 0) ⊎ (most ≡ 0)) (few e) result m k in
       omega (arith, fits, within)
 
 pub wanted_within : (a : InputState) (most : ℕ) (rules : Rules) (result : Result Ending RunFault)
-    → UnlessMissed (Refuses a.end) (NotMissed rules.choose 0 (asked a) most) (run_miss result)
-    → WantsWithin rules result (asked a) most
+    → UnlessMissed (Refuses a.end) (NotMissed rules.choose 0 (missed_in a) most) (run_miss result)
+    → WantsWithin rules result (missed_in a) most
 wanted_within a most rules result m = wanted_by_choose a most rules.choose result m
 
 -- by the fault that has come
 fault_within : (a : InputState) (fault : DeviceFault) → fault_at a.end ≡ Some fault → (k : ℕ)
-    → k + asked a ≤ ending_wanted k (Err (fault_of_device fault))
+    → k + missed_in a ≤ ending_wanted k (Err (fault_of_device fault))
 fault_within a reads.Read e k = omega (arith, asked_one a)
 fault_within a reads.TooLong e k = omega (arith, asked_one a)
 fault_within a reads.Write e k = absurd (fault_of_no_writer a.end e)
 fault_within a reads.Memory e k = absurd (fault_without_memory a.end e)
 
 pub wanted_at_fault : (a : InputState) (most : ℕ) (rules : Rules) (fault : DeviceFault) → fault_at a.end ≡ Some fault
-    → WantsWithin rules (Err (fault_of_device fault)) (asked a) most
+    → WantsWithin rules (Err (fault_of_device fault)) (missed_in a) most
 wanted_at_fault a most rules fault e = by_choose rules.choose where
   by_choose : (choose : Option ℤ) (given all k : ℕ) → given ≤ k → k ≤ all → (most ≡ 0 → all ≤ given)
-      → given + asked a ≤ lines_wanted choose all k (Err (fault_of_device fault))
+      → given + missed_in a ≤ lines_wanted choose all k (Err (fault_of_device fault))
   by_choose None given all k fits part over = let within = fault_within a fault e k in omega (arith, fits, within)
   by_choose (Some n) given all k fits part over = by_all (k == all) where
-    by_all : (same : Bool) → given + asked a ≤ (if same then k + 1 else ending_wanted k (Err (fault_of_device fault)))
+    by_all : (same : Bool) → given + missed_in a ≤ (if same then k + 1 else ending_wanted k
+        (Err (fault_of_device fault)))
     by_all true = omega (arith, fits, asked_one a)
     by_all false = let within = fault_within a fault e k in omega (arith, fits, within)
 
@@ -352,7 +353,7 @@ more_at_fault a fault e none = by_end a.end e (omega (arith, none)) where
 
 -- and one was asked for without success
 pub fault_missed : (a : InputState) (choose : Option ℤ) (fault : DeviceFault) → fault_at a.end ≡ Some fault
-    → NotMissed choose 0 (asked a) (most_lines a) → ⊥
+    → NotMissed choose 0 (missed_in a) (most_lines a) → ⊥
 fault_missed a None fault e m = fault_asked a fault e m
 fault_missed a (Some n) fault e (inl q) = fault_asked a fault e q
 fault_missed a (Some n) fault e (inr none) = more_at_fault a fault e none
@@ -407,12 +408,12 @@ module _ (p : StoredProgram) (rules : Rules) (a : List (List ℕ) → Answers) (
 pub taken_by : {R : Type 0} (remaining : R → Option (List ℕ)) (counted failures : R → ℕ) (s t : ReaderLines R)
     (given : List (List ℕ)) (i : R)
     → line_input s ≡ fresh_input → (line_reader s).now ≡ i → GivesFrom remaining counted failures s given t
-    → ReadsOn (asked (line_input t)) (fresh (remaining i) (counted i) (failures i)) given
+    → ReadsOn (missed_in (line_input t)) (fresh (remaining i) (counted i) (failures i)) given
     (input_of remaining counted failures t)
 taken_by remaining counted failures s t given i state reader gives =
-    subst (λ r. ReadsOn (asked (line_input t)) (input_now remaining counted failures fresh_input r) given
+    subst (λ r. ReadsOn (missed_in (line_input t)) (input_now remaining counted failures fresh_input r) given
     (input_of remaining counted failures t)) reader
-    (subst (λ (a : InputState). ReadsOn (asked (line_input t)) (input_now remaining counted failures a
+    (subst (λ (a : InputState). ReadsOn (missed_in (line_input t)) (input_now remaining counted failures a
     (line_reader s).now) given (input_of remaining counted failures t)) state gives.reads)
 
 module _ {W : Type 0} (contents : W → Option (List ℕ)) (written : W → ℕ) (p : StoredProgram) (rules : Rules)
