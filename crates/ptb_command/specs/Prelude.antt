@@ -7,7 +7,7 @@ pub use Rattle.ptb_expr.specs.Translation.{IsMalformed, HasNoValue}
 pub use Rattle.ptb_expr.specs.Tree.{Tree, Bad, Elem}
 pub use Rattle.ptb_expr.specs.declared.fault.FaultKind.TheVariants.{What}
 pub use Rattle.ptb_expr.specs.Store.{Cells, index_of, value_at}
-pub use Rattle.ptb_expr.specs.TreeSteps.{run}
+pub use Rattle.ptb_expr.specs.TreeSteps.{steps_value}
 pub use Rattle.ptb_expr.specs.Value.{with_target, or_fault, in_range}
 pub use Rattle.ptb_expr.specs.declared.step.Step.{Step}
 pub use Rattle.ptb_expr.specs.declared.store.Target.TheVariants.{Element}

@@ -16,7 +16,7 @@ pub use Rattle.ptb_expr.specs.Stops.{HasResult, RunsOn, IfFull}
 pub use Rattle.ptb_expr.specs.Store.{map_ok}
 pub use Rattle.ptb_expr.specs.Translation.{AreStepsOf, IsMalformed, IsVariableRead, IsVariable}
 pub use Rattle.ptb_expr.specs.Tree.{Num}
-pub use Rattle.ptb_expr.specs.TreeSteps.{plain_step, after_step, run, waiting}
+pub use Rattle.ptb_expr.specs.TreeSteps.{plain_step, after_step, steps_value, waiting}
 pub use Rattle.ptb_expr.specs.Value.{fault, in_range, truth, operation, negation, absolute_value, chosen, random_number}
 pub use Rattle.ptb_expr.specs.declared.fault.FaultKind.TheVariants.{What, How}
 pub use Rattle.ptb_expr.specs.declared.step.Step.TheVariants.{Fail}

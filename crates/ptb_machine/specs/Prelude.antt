@@ -1,8 +1,9 @@
 -- This file passes on the definitions that the clauses of this crate cite most. It declares nothing.
+pub use Rattle.std.specs.Prelude.{List, ℕ, option_map}
 pub use Rattle.ptb_answers.specs.Outcome.{success}
 pub use Rattle.ptb_expr.specs.ShortValues.{IsShortOf}
 pub use Rattle.ptb_expr.specs.Store.{Cells}
-pub use Rattle.ptb_expr.specs.TreeSteps.{run}
+pub use Rattle.ptb_expr.specs.TreeSteps.{steps_value}
 pub use Rattle.ptb_expr.specs.declared.short_value.ShortValue.{ShortValue}
 pub use Rattle.ptb_text.specs.FoundParts.{LiesAhead}
 pub use Rattle.ptb_text.specs.Statements.{Statements, StoredProgram, size_of}

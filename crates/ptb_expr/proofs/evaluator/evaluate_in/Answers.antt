@@ -39,8 +39,8 @@ returns g c =
     (expression t i) c.read_expr.new.steps c.read_expr.result spelled
     (λ some. rw (c.clear.ensures, place) at (c.read_expr.ensures.reads some t same))
     (λ none. rw (c.clear.ensures, place) at (c.read_expr.ensures.fails none t same)) in
-    let value = worked_out _ _ _ _ _ _ _ _ code c.run.ensures in
-    let whole = is_whole_then _ _ _ _ _ _ _ _ code c.run.ensures in record {
+    let value = worked_out _ _ _ _ _ _ _ _ code c.run_room.ensures in
+    let whole = is_whole_then _ _ _ _ _ _ _ _ code c.run_room.ensures in record {
       text = c.read_expr.ensures.text ∙ same;
       value = value;
       spelled = spelled;

@@ -4,7 +4,7 @@ use Rattle.ptb_expr.specs.declared.short_value.ShortValue.{ShortValue}
 use Rattle.ptb_expr.specs.declared.short_value.ShortValue.TheVariants as values
 use Rattle.ptb_answers.specs.Outcome.{success}
 use Rattle.ptb_expr.specs.ShortValues.{IsShortOf}
-use Rattle.ptb_expr.specs.TreeSteps.{run}
+use Rattle.ptb_expr.specs.TreeSteps.{steps_value}
 use Rattle.ptb_machine.specs.declared.short_forms.short_command.ShortCommand.TheVariants as commands
 use Rattle.ptb_command.specs.Code.{steps_at}
 use Rattle.ptb_machine.specs.ProgramCode.{code_from}
@@ -27,7 +27,7 @@ returns-in_ok-value-in-IfLessEqual-clause-done c p code there =
     found_reaches p table code e r r (place_by e c.holds-holds-in-IfLessEqual.result) _
     (c.follow_condition-in-IfLessEqual.ensures there form.1.next)
     (c.holds-holds-in-IfLessEqual.ensures.done p table.commands e (code_from table e) arm.other r form.1
-    (subst (λ v. run c.args.registers.now.store steps [] ≡ success v) (sym own)
+    (subst (λ v. steps_value c.args.registers.now.store steps [] ≡ success v) (sym own)
     (c.in_ok-value-in-IfLessEqual.ensures steps
     (subst (λ v. IsShortOf (values.LessEqual arm.left v) steps) (sym same)
     (subst (λ (f : ShortValue). IsShortOf f steps) form.0 form.1.value)))))
@@ -44,7 +44,7 @@ returns-in_ok-value-in-If-clause-done c p code there =
     let form = form_of p table code c.args.position.now.index e there (commands.If arm.other) arm.is in
     found_reaches p table code e r r (place_by e c.holds-holds.result) _ (c.follow_condition.ensures there form.next)
     (c.holds-holds.ensures.done p table.commands e (code_from table e) arm.other r form
-    (subst (λ v. run c.args.registers.now.store steps [] ≡ success v) (sym own)
+    (subst (λ v. steps_value c.args.registers.now.store steps [] ≡ success v) (sym own)
     (c.in_ok-value-in-If.ensures steps form.value)))
 
 pub returns-in_ok-value-in-IfLong-clause-done : goal.returns-in_ok-value-in-IfLong-clause-done
@@ -60,4 +60,5 @@ returns-in_ok-value-in-IfLong-clause-done c p code there =
     found_reaches p table code e r r (place_by e c.holds-holds-in-IfLong.result) _
     (c.follow_condition-in-IfLong.ensures there form.next)
     (c.holds-holds-in-IfLong.ensures.done p table.commands e (code_from table e) arm.other r form
-    (subst (λ v. run c.args.registers.now.store steps [] ≡ success v) (sym own) c.in_ok-value-in-IfLong.ensures))
+    (subst (λ v. steps_value c.args.registers.now.store steps [] ≡ success v)
+    (sym own) c.in_ok-value-in-IfLong.ensures))
