@@ -79,10 +79,10 @@ no_list Allowed s i w some within at refused list = refused (word_of_list s list
 no_list Refused s i w some within at refused list =
     refused (word_of_items without_bound s list.0 i w some list.1 within at)
 
--- the place of a piece among all of a text
-pub place_of : (all front : List (List ℕ)) (i : ℕ) (w : List ℕ) → front ≡ take i all → i < length all
+-- the pieces of a text, split at one of them
+pub pieces_split : (all front : List (List ℕ)) (i : ℕ) (w : List ℕ) → front ≡ take i all → i < length all
     → w ≡ get_or all i w → all ≡ front ++ w ∷ drop (i + 1) all
-place_of all front i w so_far within at =
+pieces_split all front i w so_far within at =
     sym (take-append-drop i all)
     ∙ ap (λ (xs : List (List ℕ)). take i all ++ xs) (drop_at_one ∙ ap (λ (v : List ℕ). v ∷ drop (i + 1) all) (sym at))
     ∙ ap (λ (xs : List (List ℕ)). xs ++ w ∷ drop (i + 1) all) (sym so_far)
@@ -115,7 +115,7 @@ mistake_at bounds s ys w n fault some so_far within at each counted faulty = rec
   not_list = no_list bounds s (length ys) w.now some within at faulty.refused;
   before = map (λ v. v.now) ys;
   after = drop (length ys + 1) (list_pieces s);
-  place = place_of (list_pieces s) (map (λ v. v.now) ys) (length ys) w.now so_far within at;
+  place = pieces_split (list_pieces s) (map (λ v. v.now) ys) (length ys) w.now so_far within at;
   items = each;
   counted = ap (λ (k : ℕ). k + 1) (counted ∙ sym (length-map ys (λ (v : Bor (List ℕ)). v.now)));
   fault = faulty;

@@ -169,7 +169,7 @@ impl Program {
     }
 
     /// Where the text of the statement at this index is, or the end of all texts.
-    pub(crate) fn place_of(&self, at: usize) -> u16
+    pub(crate) fn text_start(&self, at: usize) -> u16
         requires { at ≤ length self.now.lines }
         ensures { result ≡ texts_length (take at self.now.lines) }
     {

@@ -119,7 +119,7 @@ impl Program {
         if self.statements.try_reserve(1).is_err() {
             return Err(LoadFault::Memory);
         }
-        let place = self.place_of(at);
+        let place = self.text_start(at);
         put_text(&mut self.pool, usize::from(place), usize::from(place), text);
         let statement = Statement {
             number,

@@ -10,7 +10,7 @@ use Rattle.ptb_text.proofs.StoredTexts.{IsKept-same, insert_enters, insert_kept,
 use Rattle.ptb_text.proofs.StoredTexts.{store_full, store_refused, short_text, grown_cost}
 use Rattle.ptb_text.proofs.StoredLines.{HasSizes-from_kept, length_shown, memory_shown, same_shown}
 use Rattle.ptb_text.proofs.program.Program.insert.Goals as goal
-use Rattle.ptb_text.proofs.program.Program.insert.Goals.{After-place_of-place, After-unwrap}
+use Rattle.ptb_text.proofs.program.Program.insert.Goals.{After-text_start-place, After-unwrap}
 
 pub returns-then-cost-self : goal.returns-then-cost-self
 returns-then-cost-self c =
@@ -56,41 +56,41 @@ invariant_of-self-2 c =
     c.self.invariant
 
 -- where the new text goes
-place : (c : After-place_of-place) → c.place_of-place.result ≡ texts_length (take c.args.at c.args.self.now.lines)
+place : (c : After-text_start-place) → c.text_start-place.result ≡ texts_length (take c.args.at c.args.self.now.lines)
 place c =
     let same = same_shown c.self.inside (record c.self.inside {
       statements = c.try_reserve-2.new.self;
       pool = c.try_reserve.new.self;
     }) c.try_reserve-2.ensures.items c.try_reserve.ensures.items refl
     ∙ c.self.view_is in
-    c.place_of-place.ensures ∙ ap (λ q. texts_length (take c.args.at q.lines)) same
+    c.text_start-place.ensures ∙ ap (λ q. texts_length (take c.args.at q.lines)) same
 
 pub put_text-requires-clause-within : goal.put_text-requires-clause-within
 put_text-requires-clause-within c =
     let p = c.args.self.now in
     let s = HasSizes-from_kept c.self.inside p c.self.view_is c.self.invariant in
-    let here = place (goal.at.put_text-requires-clause-within c).After-place_of-place in
+    let here = place (goal.at.put_text-requires-clause-within c).After-text_start-place in
     let part = sum_by-take-le (λ t. length t.1) p.lines c.args.at in
     omega (arith, here, part, s.texts_are, c.from-2.ensures, c.try_reserve.ensures.len, c.self.inside.pool.ok.0)
 
 -- the new statement is at its place
 edit : (c : After-unwrap)
     → c.insert.new.self.items ≡ insert c.self.inside.statements.items c.args.at
-    (record { number = c.args.number; place = c.place_of-place.result; length = length c.args.text.now })
+    (record { number = c.args.number; place = c.text_start-place.result; length = length c.args.text.now })
 edit c = (rw c.unwrap.ensures at c.insert.ensures.items) ∙ ap (λ all. insert all c.args.at
-    (record { number = c.args.number; place = c.place_of-place.result; length = length c.args.text.now }))
+    (record { number = c.args.number; place = c.text_start-place.result; length = length c.args.text.now }))
     c.try_reserve-2.ensures.items
 
 pub lay_out-requires : goal.lay_out-requires
 lay_out-requires c =
     let p = c.args.self.now in
     let s = HasSizes-from_kept c.self.inside p c.self.view_is c.self.invariant in
-    let here = place (goal.at.lay_out-requires c).After-place_of-place in
+    let here = place (goal.at.lay_out-requires c).After-text_start-place in
     let all = c.self.inside.statements.items in
     let ss = c.deref_mut.result.now in
     let new : Statement = record {
       number = c.args.number;
-      place = c.place_of-place.result;
+      place = c.text_start-place.result;
       length = length c.args.text.now;
     } in
     let front = sum_by-take-le (λ t. length t.1) p.lines c.args.at in
@@ -119,8 +119,8 @@ invariant_of-self-3 c =
     let g = goal.at.invariant_of-self-3 c in
     insert_kept c.self.inside c.args.self.now c.self.view_is c.self.invariant c.args.number c.args.at c.args.text.now
     c.requires.place c.cost.result c.cost.ensures.value c.if-cost-self.false
-    c.insert.new.self c.deref_mut.result.now c.lay_out.new.statements c.put_text.new.pool c.place_of-place.result
-    (place g.After-place_of-place) c.deref_mut.ensures.value c.deref_mut.ensures.len c.lay_out.ensures
+    c.insert.new.self c.deref_mut.result.now c.lay_out.new.statements c.put_text.new.pool c.text_start-place.result
+    (place g.After-text_start-place) c.deref_mut.ensures.value c.deref_mut.ensures.len c.lay_out.ensures
     _ (edit g.After-unwrap) refl _ c.from.result c.from-2.result c.put_text.ensures c.try_reserve.ensures.items
     c.from.ensures c.from-2.ensures c.requires.statement
 
@@ -129,8 +129,8 @@ returns c =
     let g = goal.at.returns c in
     insert_enters c.self.inside c.args.self.now c.self.view_is c.self.invariant c.args.number c.args.at c.args.text.now
     c.requires.place c.cost.result c.cost.ensures.value c.if-cost-self.false
-    c.insert.new.self c.deref_mut.result.now c.lay_out.new.statements c.put_text.new.pool c.place_of-place.result
-    (place g.After-place_of-place) c.deref_mut.ensures.value c.deref_mut.ensures.len c.lay_out.ensures
+    c.insert.new.self c.deref_mut.result.now c.lay_out.new.statements c.put_text.new.pool c.text_start-place.result
+    (place g.After-text_start-place) c.deref_mut.ensures.value c.deref_mut.ensures.len c.lay_out.ensures
     _ (edit g.After-unwrap) refl _ c.from.result c.from-2.result c.put_text.ensures c.try_reserve.ensures.items
     c.from.ensures c.from-2.ensures
 
@@ -165,8 +165,8 @@ overflow_add-cost-2 c =
 pub overflow_cast-statement : goal.overflow_cast-statement
 overflow_cast-statement c = omega (arith, short_text c.args.number c.args.text.now c.requires.statement)
 
-pub place_of-place-requires : goal.place_of-place-requires
-place_of-place-requires c =
+pub text_start-place-requires : goal.text_start-place-requires
+text_start-place-requires c =
     let same = same_shown c.self.inside (record c.self.inside {
       statements = c.try_reserve-2.new.self;
       pool = c.try_reserve.new.self;

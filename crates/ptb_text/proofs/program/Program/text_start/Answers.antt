@@ -1,9 +1,9 @@
--- This file answers what is left to prove of `Program::place_of`.
+-- This file answers what is left to prove of `Program::text_start`.
 use Rattle.std.proofs.Common.{sym, ap, ◌∙◌, arith}
 use Rattle.std.proofs.lemmas.List.{take_all}
 use Rattle.ptb_text.specs.Program.{texts_length}
 use Rattle.ptb_text.proofs.StoredLines.{HasSizes-from_kept, IsEntry-shown}
-use Rattle.ptb_text.proofs.program.Program.place_of.Goals as goal
+use Rattle.ptb_text.proofs.program.Program.text_start.Goals as goal
 
 pub overflow_cast-result : goal.overflow_cast-result
 overflow_cast-result c =
