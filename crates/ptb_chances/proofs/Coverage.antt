@@ -13,7 +13,8 @@ use Rattle.ptb_chances.specs.Chances.{Row, chance_of_all}
 use Rattle.ptb_machine.specs.RunTree.{leaves, tree}
 use Rattle.ptb_chances.specs.Accounts.{AreAlike, account, chance_in, runs_in, row_of_run}
 use Rattle.ptb_chances.specs.StagePlays.{IsStageAt}
-use Rattle.ptb_chances.specs.WaitingPlays.{Standing, Waits, CountsFor, below, Covers, Takes, SamePlace, IsJoined, Puts}
+use Rattle.ptb_chances.specs.WaitingPlays.{WaitingPlay, Waits, CountsFor, below, Covers, Takes, SamePlace, IsJoined}
+use Rattle.ptb_chances.specs.WaitingPlays.{Puts}
 use Rattle.ptb_chances.proofs.Accounts.{alike_self, alike_then}
 use Rattle.ptb_chances.proofs.JoinedAccounts.{chance_joined, runs_joined}
 use Rattle.ptb_chances.proofs.Sums.{plus_comm, plus_assoc, plus_nothing, equals_plus, equals_then, plus_positive}
@@ -93,7 +94,7 @@ module _ (p : StoredProgram) (input : List (List ℕ)) (rules : Rules) (most : �
   abbrev game : Answers → Outcome Finish (List ℕ)
   game = play p input rules
 
-  pub covers_alike : (ws : List Standing) (done now : List Answers) → Alike game done now
+  pub covers_alike : (ws : List WaitingPlay) (done now : List Answers) → Alike game done now
       → Covers p input rules most done ws → Covers p input rules most now ws
   covers_alike [] done now a c = alike_then (account game (tree game most)) (account game done) (account game now) c a
   covers_alike (w ∷ ws) done now a c = (
@@ -110,11 +111,11 @@ module _ (p : StoredProgram) (input : List (List ℕ)) (rules : Rules) (most : �
   below_joined (q ∷ qs) rs = ap (λ zs. leaves game q most ++ zs) (below_joined qs rs)
       ∙ sym (append_assoc (leaves game q most) (below p input rules most qs) (below p input rules most rs))
 
-  abbrev pub CoveredBy : Standing → List Answers → List Standing → Type 0
+  abbrev pub CoveredBy : WaitingPlay → List Answers → List WaitingPlay → Type 0
   CoveredBy w done ws = (qs : List Answers) × CountsFor p input rules w qs
       × Covers p input rules most (below p input rules most qs ++ done) ws
 
-  out_of : (front back : List Standing) (w : Standing) (done : List Answers)
+  out_of : (front back : List WaitingPlay) (w : WaitingPlay) (done : List Answers)
       → Covers p input rules most done (front ++ w ∷ back) → CoveredBy w done (front ++ back)
   out_of [] back w done c = c
   out_of (f ∷ front) back w done c =
@@ -131,7 +132,7 @@ module _ (p : StoredProgram) (input : List (List ℕ)) (rules : Rules) (most : �
         ),
       )
 
-  into : (front back : List Standing) (w : Standing) (qs done : List Answers) → CountsFor p input rules w qs
+  into : (front back : List WaitingPlay) (w : WaitingPlay) (qs done : List Answers) → CountsFor p input rules w qs
       → Covers p input rules most (below p input rules most qs ++ done) (front ++ back)
       → Covers p input rules most done (front ++ w ∷ back)
   into [] back w qs done s c = (qs, s, c)
@@ -144,30 +145,30 @@ module _ (p : StoredProgram) (input : List (List ℕ)) (rules : Rules) (most : �
             (own ++ (first ++ done)) (front_turned game first own done) c.2),
       )
 
-  pub taken_out : (old new : List Standing) (w : Standing) (done : List Answers) → Takes old w new
+  pub taken_out : (old new : List WaitingPlay) (w : WaitingPlay) (done : List Answers) → Takes old w new
       → Covers p input rules most done old → CoveredBy w done new
   taken_out old new w done t c =
       let there : Covers p input rules most done (t.front ++ w ∷ t.back) =
-      subst (λ (ws : List Standing). Covers p input rules most done ws) t.old_is c in
+      subst (λ (ws : List WaitingPlay). Covers p input rules most done ws) t.old_is c in
       let rest = out_of t.front t.back w done there in (
         rest.0,
         rest.1,
-        subst (λ (ws : List Standing). Covers p input rules most
+        subst (λ (ws : List WaitingPlay). Covers p input rules most
             (below p input rules most rest.0 ++ done) ws) (sym t.new_is) rest.2,
       )
 
-  pub put_in : (old new : List Standing) (w : Standing) (qs done : List Answers) → Takes new w old
+  pub put_in : (old new : List WaitingPlay) (w : WaitingPlay) (qs done : List Answers) → Takes new w old
       → CountsFor p input rules w qs → Covers p input rules most (below p input rules most qs ++ done) old
       → Covers p input rules most done new
   put_in old new w qs done t s c =
       let there : Covers p input rules most (below p input rules most qs ++ done) (t.front ++ t.back) = subst
-      (λ (ws : List Standing). Covers p input rules most (below p input rules most qs ++ done) ws) t.new_is c in
-      subst (λ (ws : List Standing). Covers p input rules most done ws) (sym t.old_is)
+      (λ (ws : List WaitingPlay). Covers p input rules most (below p input rules most qs ++ done) ws) t.new_is c in
+      subst (λ (ws : List WaitingPlay). Covers p input rules most done ws) (sym t.old_is)
       (into t.front t.back w qs done s there)
 
   -- ---- plays in one state
 
-  module _ (v u : Standing) (same : SamePlace v u) where
+  module _ (v u : WaitingPlay) (same : SamePlace v u) where
     waits_too : (q : Answers) → Waits p input rules v q → Waits p input rules u q
     waits_too q x = record {
       state = x.state;
@@ -194,7 +195,7 @@ module _ (p : StoredProgram) (input : List (List ℕ)) (rules : Rules) (most : �
   chances_joined (q ∷ qs) rs = ap (plus (row_of_run game q).chance) (chances_joined qs rs)
       ∙ sym (plus_assoc (row_of_run game q).chance (chance_of_all game qs) (chance_of_all game rs))
 
-  both_stand : (v w u : Standing) (qs rs : List Answers) → IsJoined v w u → CountsFor p input rules v qs
+  both_stand : (v w u : WaitingPlay) (qs rs : List Answers) → IsJoined v w u → CountsFor p input rules v qs
       → CountsFor p input rules w rs → CountsFor p input rules u (qs ++ rs)
   both_stand v w u qs rs j s t = record {
     all = all_append (Waits p input rules u) qs rs (all_wait v u j.first qs s.all) (all_wait w u j.second rs t.all);
@@ -211,7 +212,7 @@ module _ (p : StoredProgram) (input : List (List ℕ)) (rules : Rules) (most : �
   }
 
   -- plays are put in, by themselves or together with others
-  pub puts : (old new : List Standing) (w : Standing) (qs done : List Answers) → Puts old w new
+  pub puts : (old new : List WaitingPlay) (w : WaitingPlay) (qs done : List Answers) → Puts old w new
       → CountsFor p input rules w qs → Covers p input rules most (below p input rules most qs ++ done) old
       → Covers p input rules most done new
   puts old new w qs done (inl t) s c = put_in old new w qs done t s c

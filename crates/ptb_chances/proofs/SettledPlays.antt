@@ -24,8 +24,8 @@ use Rattle.ptb_machine.proofs.PublicLemmas.{bounds-append, is_answer_from}
 use Rattle.ptb_chances.specs.Accounts.{AddsRow, AreSame, IsAccountOf, HasChance, account, chance_in}
 use Rattle.ptb_chances.specs.Accounts.{chance_of_rows, runs_of_rows}
 use Rattle.ptb_chances.specs.StagePlays.{IsStageAt, Came, IsOver, IsAsked}
-use Rattle.ptb_chances.specs.WaitingPlays.{Standing, Waits, CountsFor, below, Covers, Accounted, Takes}
-use Rattle.ptb_chances.specs.WaitingPlays.{Puts, PutsAnswers, after_answer, first_standing, gone_to}
+use Rattle.ptb_chances.specs.WaitingPlays.{WaitingPlay, Waits, CountsFor, below, Covers, Accounted, Takes}
+use Rattle.ptb_chances.specs.WaitingPlays.{Puts, PutsAnswers, after_answer, first_waiting, gone_to}
 use Rattle.ptb_chances.proofs.Accounts.{alike_back, alike_self, chance_is, runs_are}
 use Rattle.ptb_chances.proofs.Accounts.{same_alike as same_alike_of, same_from_alike, same_then}
 use Rattle.ptb_chances.proofs.Coverage.{Alike, account_joined, both_alike, covers_alike}
@@ -44,7 +44,7 @@ open_rest : (f : Finish) (rest : Answers) → is_open {W = List ℕ} (Done f res
 open_rest f [] h = refl
 open_rest f (k ∷ rest) h = absurd cc
 
-module _ (p : StoredProgram) (input : List (List ℕ)) (rules : Rules) (most : ℕ) (w : Standing) where
+module _ (p : StoredProgram) (input : List (List ℕ)) (rules : Rules) (most : ℕ) (w : WaitingPlay) where
   abbrev game : Answers → Outcome Finish (List ℕ)
   game = play p input rules
 
@@ -130,7 +130,7 @@ module _ (p : StoredProgram) (input : List (List ℕ)) (rules : Rules) (most : �
           ∙ sym (runs_are game r qs ∙ ap length (all_kept r qs a));
     }
 
-    pub over_accounted : (qs done : List Answers) (old new : List Row) (ws : List Standing) → Stand qs
+    pub over_accounted : (qs done : List Answers) (old new : List Row) (ws : List WaitingPlay) → Stand qs
         → ((q : Answers) (x : Waits p input rules w q) → IsOver p rules x.state (take n w.plan) result.ending shown)
         → IsAccountOf game done old → AddsRow old row new
         → Covers p input rules most (below p input rules most qs ++ done) ws → Accounted p input rules most new ws
@@ -153,7 +153,7 @@ module _ (p : StoredProgram) (input : List (List ℕ)) (rules : Rules) (most : �
   -- ---- they continue
 
   module _ (m : Configuration) (taken : ℕ) (shown : List ℕ) where
-    abbrev pub gone : Standing
+    abbrev pub gone : WaitingPlay
     gone = gone_to m taken shown w.chance w.runs
 
     waits_on : (q : Answers) (x : Waits p input rules w q) → Came p rules x.state w.plan m (drop taken input) shown
@@ -347,11 +347,12 @@ module _ (p : StoredProgram) (input : List (List ℕ)) (rules : Rules) (most : �
 
     -- ---- those that are put in
 
-    answers_put : (k : ℕ) (old new : List Standing) (qs done : List Answers) → k ≤ n → PutsAnswers w (pos n) k old new
+    answers_put : (k : ℕ) (old new : List WaitingPlay) (qs done : List Answers) → k ≤ n
+        → PutsAnswers w (pos n) k old new
         → AllByRecursion AsksSo qs → Stand qs → Covers p input rules most (spread qs k ++ done) old
         → Covers p input rules most done new
     answers_put zero old new qs done few put a s c =
-        subst (λ (ws : List Standing). Covers p input rules most done ws) (sym put) c
+        subst (λ (ws : List WaitingPlay). Covers p input rules most done ws) (sym put) c
     answers_put (suc k) old new qs done few put a s c =
         let last = below p input rules most (map (more (suc k)) qs) in
         let turned : Covers p input rules most (spread qs k ++ (last ++ done)) old =
@@ -364,7 +365,7 @@ module _ (p : StoredProgram) (input : List (List ℕ)) (rules : Rules) (most : �
         put_in p input rules most put.0 new (after_answer w (pos n) (pos (suc k))) (map (more (suc k)) qs) done put.2
         (stands_after (suc k) qs (is_answer_from n (suc k) (omega arith) few) a s) before
 
-    pub asked_covers : (old new : List Standing) (qs done : List Answers) → PutsAnswers w (pos n) n old new
+    pub asked_covers : (old new : List WaitingPlay) (qs done : List Answers) → PutsAnswers w (pos n) n old new
         → AllByRecursion AsksSo qs → Stand qs → Covers p input rules most (below p input rules most qs ++ done) old
         → Covers p input rules most done new
     asked_covers old new qs done puts a s c =
@@ -384,7 +385,8 @@ positive_some (pos zero) low = absurd low.le
 positive_some (pos (suc n)) low = omega arith
 positive_some (negsuc n) low = absurd low.le
 
-module _ (p : StoredProgram) (input : List (List ℕ)) (rules : Rules) (most : ℕ) (w : Standing) (old : List Standing)
+module _ (p : StoredProgram) (input : List (List ℕ)) (rules : Rules) (most : ℕ) (w : WaitingPlay)
+    (old : List WaitingPlay)
     (tally : List Row) (a : Accounted p input rules most tally (w ∷ old)) where
   abbrev run : Answers → Outcome Finish (List ℕ)
   run = play p input rules
@@ -424,7 +426,7 @@ module _ (p : StoredProgram) (input : List (List ℕ)) (rules : Rules) (most : �
       over_accounted p input rules most w n (record { ending = e; line = last_line (lines shown) }) shown refl
       a.covers.0 a.done tally new old a.covers.1 (λ q x. over x.state x.stands) a.account_is adds a.covers.2
 
-  pub settled_gone : (m : Configuration) (taken : ℕ) (shown : List ℕ) (new : List Standing)
+  pub settled_gone : (m : Configuration) (taken : ℕ) (shown : List ℕ) (new : List WaitingPlay)
       → Each (λ S. Came p rules S w.plan m (drop taken input) shown) → m.spent ≡ false → taken ≤ length input
       → Puts old (gone_to m taken shown w.chance w.runs) new → Accounted p input rules most tally new
   settled_gone m taken shown new came unspent within put = record {
@@ -451,7 +453,7 @@ module _ (p : StoredProgram) (input : List (List ℕ)) (rules : Rules) (most : �
         let x = one_waits.1 in
         omega (arith, few, ap length x.answers, length-append x.begun w.plan)
 
-    pub settled_asked : (new : List Standing) → PutsAnswers w bound (unsigned_abs bound) old new
+    pub settled_asked : (new : List WaitingPlay) → PutsAnswers w bound (unsigned_abs bound) old new
         → Accounted p input rules most tally new
     settled_asked new put =
         let n : ℕ = unsigned_abs bound in
@@ -476,7 +478,7 @@ module _ (p : StoredProgram) (input : List (List ℕ)) (rules : Rules) (most : �
   play_from a = refl
 
   pub accounted_first : (m : Configuration) → m.spent ≡ false → Represents p.lines m (first_state p input rules.choose)
-      → IsReader (play p input rules) most → Accounted p input rules most [] (first_standing m ∷ [])
+      → IsReader (play p input rules) most → Accounted p input rules most [] (first_waiting m ∷ [])
   accounted_first m unspent represents reads = record {
     done = [];
     account_is = record { same = same_from_alike [] [] (alike_self []); positive = tt };
@@ -517,7 +519,7 @@ module _ (p : StoredProgram) (input : List (List ℕ)) (rules : Rules) (most : �
     positive = (a.account_is).positive;
   }
 
-  pub accounted_next : (tally : List Row) (old new : List Standing) (w : Standing) → Takes old w new
+  pub accounted_next : (tally : List Row) (old new : List WaitingPlay) (w : WaitingPlay) → Takes old w new
       → Accounted p input rules most tally old → Accounted p input rules most tally (w ∷ new)
   accounted_next tally old new w t a = record {
     done = a.done;

@@ -9,7 +9,7 @@ use Rattle.ptb_answers.specs.Outcome.{Answers}
 use Rattle.ptb_answers.specs.declared.rules.Rules.{Rules}
 use Rattle.ptb_machine.specs.Questions.{most_answers}
 use Rattle.ptb_command.specs.Configuration.{Configuration}
-use Rattle.ptb_chances.specs.WaitingPlays.{Standing, Takes, SamePlace, Puts, PutsAnswers, after_answer}
+use Rattle.ptb_chances.specs.WaitingPlays.{WaitingPlay, Takes, SamePlace, Puts, PutsAnswers, after_answer}
 use Rattle.ptb_chances.specs.WaitingPlays.{work_left, work_of, power, depth_left}
 
 pub power_positive : (n : ℕ) → 1 ≤ power n
@@ -34,24 +34,24 @@ power_less m (suc n) less =
     omega (arith, rises, some)
 
 module _ (limit most : ℕ) where
-  work_split : (front back : List Standing) (w : Standing)
+  work_split : (front back : List WaitingPlay) (w : WaitingPlay)
       → work_left limit most (front ++ w ∷ back) ≡ work_of limit most w + work_left limit most (front ++ back)
   work_split [] back w = refl
   work_split (f ∷ front) back w = let rest = work_split front back w in omega (arith, rest)
 
-  pub work_taken : (old new : List Standing) (w : Standing) → Takes old w new
+  pub work_taken : (old new : List WaitingPlay) (w : WaitingPlay) → Takes old w new
       → work_left limit most old ≡ work_of limit most w + work_left limit most new
   work_taken old new w t = ap (work_left limit most) t.old_is ∙ work_split t.front t.back w
       ∙ ap (λ ws. work_of limit most w + work_left limit most ws) (sym t.new_is)
 
-  pub work_some : (w : Standing) (ws : List Standing) → work_left limit most ws < work_left limit most (w ∷ ws)
+  pub work_some : (w : WaitingPlay) (ws : List WaitingPlay) → work_left limit most ws < work_left limit most (w ∷ ws)
   work_some w ws = let some = power_positive (depth_left limit most w) in omega (arith, some)
 
-  same_depth : (v u : Standing) → SamePlace v u → depth_left limit most v ≡ depth_left limit most u
+  same_depth : (v u : WaitingPlay) → SamePlace v u → depth_left limit most v ≡ depth_left limit most u
   same_depth v u same = ap (λ (m : Configuration). (limit - m.steps) * (most + 1) + (most - length v.plan)) same.machine
       ∙ ap (λ (plan : Answers). (limit - u.machine.steps) * (most + 1) + (most - length plan)) same.plan
 
-  pub work_put : (old new : List Standing) (w : Standing) → Puts old w new
+  pub work_put : (old new : List WaitingPlay) (w : WaitingPlay) → Puts old w new
       → work_left limit most new ≤ work_of limit most w + work_left limit most old
   work_put old new w (inl t) = let e = work_taken new old w t in omega (arith, e)
   work_put old new w (inr x) =
@@ -62,7 +62,7 @@ module _ (limit most : ℕ) where
       omega (arith, before, after, same)
 
   -- fewer commands are left
-  pub depth_less : (v w : Standing) → limit - v.machine.steps < limit - w.machine.steps
+  pub depth_less : (v w : WaitingPlay) → limit - v.machine.steps < limit - w.machine.steps
       → depth_left limit most v < depth_left limit most w
   depth_less v w less =
       let fewer : (limit - v.machine.steps + 1) * (most + 1) ≤ (limit - w.machine.steps) * (most + 1) =
@@ -73,7 +73,7 @@ module _ (limit most : ℕ) where
       omega (arith, fewer, split)
 
   -- plays continued, to another state
-  pub work_gone : (old new : List Standing) (w v : Standing) → Puts old v new
+  pub work_gone : (old new : List WaitingPlay) (w v : WaitingPlay) → Puts old v new
       → limit - v.machine.steps < limit - w.machine.steps → work_left limit most new < work_left limit most (w ∷ old)
   work_gone old new w v puts less =
       let put = work_put old new v puts in
@@ -81,7 +81,7 @@ module _ (limit most : ℕ) where
       omega (arith, put, below)
 
   -- plays asked
-  module _ (w : Standing) (n : ℤ) (planned : length w.plan < most) where
+  module _ (w : WaitingPlay) (n : ℤ) (planned : length w.plan < most) where
     depth_after : (k : ℤ) → depth_left limit most w ≡ suc (depth_left limit most (after_answer w n k))
     depth_after k =
         let longer : length (w.plan ++ k ∷ []) ≡ length w.plan + 1 = length-append w.plan (k ∷ []) in
@@ -90,7 +90,7 @@ module _ (limit most : ℕ) where
     work_after : (k : ℤ) → work_of limit most w ≡ 65536 * work_of limit most (after_answer w n k)
     work_after k = ap power (depth_after k)
 
-    work_answers : (k : ℕ) (old new : List Standing) → PutsAnswers w n k old new
+    work_answers : (k : ℕ) (old new : List WaitingPlay) → PutsAnswers w n k old new
         → 65536 * work_left limit most new ≡ k * work_of limit most w + 65536 * work_left limit most old
     work_answers zero old new puts = let same = ap (work_left limit most) puts in omega (arith, same)
     work_answers (suc k) old new puts =
@@ -99,7 +99,7 @@ module _ (limit most : ℕ) where
         let each = work_after (pos (suc k)) in
         omega (arith, before, one, each)
 
-    pub work_asked : (k : ℕ) (old new : List Standing) → k < 65536 → PutsAnswers w n k old new
+    pub work_asked : (k : ℕ) (old new : List WaitingPlay) → k < 65536 → PutsAnswers w n k old new
         → work_left limit most new < work_left limit most (w ∷ old)
     work_asked k old new few puts =
         let all = work_answers k old new puts in
@@ -110,8 +110,8 @@ module _ (limit most : ℕ) where
         omega (arith, all, some, part, split)
 
 -- less is left than before plays were taken out, by whatever names
-pub less_there : (p q : StoredProgram) (input lines : List (List ℕ)) (by r : Rules) (old mid new : List Standing)
-    (w : Standing)
+pub less_there : (p q : StoredProgram) (input lines : List (List ℕ)) (by r : Rules) (old mid new : List WaitingPlay)
+    (w : WaitingPlay)
     → q ≡ p → lines ≡ input → r ≡ by → Takes old w mid
     → work_left r.limit (most_answers q lines r.limit) new < work_left r.limit (most_answers q lines r.limit) (w ∷ mid)
     → work_left by.limit (most_answers p input by.limit) new < work_left by.limit (most_answers p input by.limit) old

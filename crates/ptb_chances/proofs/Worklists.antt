@@ -10,15 +10,16 @@ use Rattle.std.specs.declared.cmp.Ordering.TheVariants.{Less, Equal, Greater}
 use Rattle.ptb_numbers.specs.Fractions.{Equals, plus}
 use Rattle.ptb_chances.specs.declared.worklist.SavedState.{SavedState}
 use Rattle.ptb_chances.specs.declared.worklist.Waiting.{Waiting}
-use Rattle.ptb_chances.specs.WaitingPlays.{IsJoined, Puts, Standing, Takes, unplanned, in_map}
+use Rattle.ptb_chances.specs.WaitingPlays.{IsJoined, Puts, WaitingPlay, Takes, unplanned, in_map}
 
-pub map_last : {A : Type 0} (f : A → Standing) (xs : List A) (x : A) (rest : List Standing)
+pub map_last : {A : Type 0} (f : A → WaitingPlay) (xs : List A) (x : A) (rest : List WaitingPlay)
     → map f (xs ++ x ∷ []) ++ rest ≡ map f xs ++ f x ∷ rest
 map_last f [] x rest = refl
 map_last f (y ∷ xs) x rest = ap (λ ws. f y ∷ ws) (map_last f xs x rest)
 
 -- one more at the end of a list
-pub takes_last : {A : Type 0} (f : A → Standing) (xs ys : List A) (x : A) (rest : List Standing) → ys ≡ xs ++ x ∷ []
+pub takes_last : {A : Type 0} (f : A → WaitingPlay) (xs ys : List A) (x : A) (rest : List WaitingPlay)
+    → ys ≡ xs ++ x ∷ []
     → Takes (map f ys ++ rest) (f x) (map f xs ++ rest)
 takes_last f xs ys x rest is = record {
   front = map f xs;
@@ -28,7 +29,7 @@ takes_last f xs ys x rest is = record {
 }
 
 -- after others
-pub takes_after : (us old new : List Standing) (w : Standing) → Takes old w new → Takes (us ++ old) w (us ++ new)
+pub takes_after : (us old new : List WaitingPlay) (w : WaitingPlay) → Takes old w new → Takes (us ++ old) w (us ++ new)
 takes_after us old new w t = record {
   front = us ++ t.front;
   back = t.back;
@@ -36,7 +37,8 @@ takes_after us old new w t = record {
   new_is = ap (λ ws. us ++ ws) t.new_is ∙ sym (append_assoc us t.front t.back);
 }
 
-takes_under : (f : Standing) (old new : List Standing) (w : Standing) → Takes old w new → Takes (f ∷ old) w (f ∷ new)
+takes_under : (f : WaitingPlay) (old new : List WaitingPlay) (w : WaitingPlay) → Takes old w new
+    → Takes (f ∷ old) w (f ∷ new)
 takes_under f old new w t = record {
   front = f ∷ t.front;
   back = t.back;
@@ -89,11 +91,11 @@ module _ (order : ℕ → ℕ → Ordering) (key : ℕ) where
 
 -- ---- plays that are put in
 
-module _ (plans : List Standing) (others : List Waiting) (es : List (ℕ × Waiting)) (key : ℕ) (w : Waiting) where
-  abbrev pub old_work : List Standing
+module _ (plans : List WaitingPlay) (others : List Waiting) (es : List (ℕ × Waiting)) (key : ℕ) (w : Waiting) where
+  abbrev pub old_work : List WaitingPlay
   old_work = plans ++ (map unplanned others ++ map in_map es)
 
-  abbrev pub new_work : List Waiting → List (ℕ × Waiting) → List Standing
+  abbrev pub new_work : List Waiting → List (ℕ × Waiting) → List WaitingPlay
   new_work others' es' = plans ++ (map unplanned others' ++ map in_map es')
 
   -- none wait at the key

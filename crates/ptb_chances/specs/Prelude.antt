@@ -24,6 +24,6 @@ pub use Rattle.ptb_chances.specs.Keys.{key_result, result_text, row_of_share, sh
 pub use Rattle.ptb_chances.specs.Order.{result_order_total}
 pub use Rattle.ptb_chances.specs.TableLaws.{TableLaws}
 pub use Rattle.ptb_chances.specs.StagePlays.{CanPlay, PlaysTo, SameEnd, IsStageAt, IsStageAtSaved}
-pub use Rattle.ptb_chances.specs.WaitingPlays.{planned, standings, after_answer, first_standing, gone_to, Puts}
+pub use Rattle.ptb_chances.specs.WaitingPlays.{planned, waiting_plays, after_answer, first_waiting, gone_to, Puts}
 pub use Rattle.ptb_chances.specs.WaitingPlays.{PutsAnswers}
 pub use Rattle.ptb_chances.specs.WaitingPlays.{states_left, Takes, unplanned}

@@ -3,7 +3,7 @@
 
 ghost use Rattle.std.specs.Prelude.{◌≡◌, ◌<◌, [], ◌∷◌, IfOk, OnOk};
 ghost use Rattle.ptb_chances.specs.Prelude.{lines, play, most_answers, last_line, tree, AddsRow, IsAccountOf};
-ghost use Rattle.ptb_chances.specs.Prelude.{IsTallied, work_to_do, planned, standings};
+ghost use Rattle.ptb_chances.specs.Prelude.{IsTallied, work_to_do, planned, waiting_plays};
 
 use crate::last_line::last_line;
 use crate::plays::{PlayDevices, Played};
@@ -60,7 +60,7 @@ impl<'p, 'l> Count<'p, 'l> {
         ensures lines { IfOk result (λ count. count.stage.devices.source.lines ≡ lines.now) }
         ensures rules { IfOk result (λ count. count.stage.rules ≡ rules) }
         ensures counted { IfOk result (λ count.
-            IsTallied count.stage count.tally (standings count.work)) }
+            IsTallied count.stage count.tally (waiting_plays count.work)) }
     {
         run_laws();
         let player = Player::new(alloc, program)?;
@@ -86,16 +86,16 @@ impl<'p, 'l> Count<'p, 'l> {
     // Plays a plan that was taken out of the work. Plays that are over are counted; others are put back.
     fn settle(&mut self, alloc: Global, plan: Plan) -> Result<(), AllocError>
         requires { IsTallied self.old.stage self.old.tally
-            (planned self.old.work.state plan ∷ standings self.old.work) }
+            (planned self.old.work.state plan ∷ waiting_plays self.old.work) }
         ensures player { self.new.stage.player ≡ self.old.stage.player }
         ensures rules { self.new.stage.rules ≡ self.old.stage.rules }
         ensures lines { self.new.stage.devices.source.lines
             ≡ self.old.stage.devices.source.lines }
         ensures counted { OnOk result (IsTallied self.old.stage self.new.tally
-            (standings self.new.work)) }
-        ensures less { OnOk result (work_to_do self.old.stage (standings self.new.work)
+            (waiting_plays self.new.work)) }
+        ensures less { OnOk result (work_to_do self.old.stage (waiting_plays self.new.work)
             < work_to_do self.old.stage
-            (planned self.old.work.state plan ∷ standings self.old.work)) }
+            (planned self.old.work.state plan ∷ waiting_plays self.old.work)) }
     {
         run_laws();
         let played = self.stage.play(alloc, &self.work.state, &plan)?;
@@ -125,7 +125,7 @@ impl<'p, 'l> Count<'p, 'l> {
     // Counts all that is left to be played, and takes out the tally of all runs. It is lent what it counts with, since
     // each exit of a body is proved with all that the body owns.
     fn finish<W: Watch>(&mut self, alloc: Global, watch: &W) -> Result<Tally, AllocError>
-        requires { IsTallied self.old.stage self.old.tally (standings self.old.work) }
+        requires { IsTallied self.old.stage self.old.tally (waiting_plays self.old.work) }
         ensures { IfOk result (λ tally. IsTallied self.old.stage tally []) }
     {
         let mut played: u32 = 0;

@@ -4,7 +4,7 @@
 ghost use Rattle.std.specs.Prelude.{◌≡◌, ◌<ℤ◌, ◌≤ℤ◌, pos, [], ◌∷◌, ◌++◌, map, unsigned_abs, IsTrue};
 ghost use Rattle.std.specs.Prelude.{◌+◌, ◌<◌, IfOk, OnOk, IfSome, IfNone};
 ghost use Rattle.ptb_chances.specs.Prelude.{Configuration, IsAtFirst, Equals, plus, after_answer};
-ghost use Rattle.ptb_chances.specs.Prelude.{first_standing, gone_to, planned, standings, Puts, PutsAnswers};
+ghost use Rattle.ptb_chances.specs.Prelude.{first_waiting, gone_to, planned, waiting_plays, Puts, PutsAnswers};
 ghost use Rattle.ptb_chances.specs.Prelude.{states_left, Takes, unplanned};
 
 use ptb_machine::{Player, SavedMachine};
@@ -171,7 +171,7 @@ impl Worklist {
     /// Where a growth was refused memory.
     pub(crate) fn begin(alloc: Global, player: &Player) -> Result<Worklist, AllocError>
         ensures { IfOk result (λ work. (m : Configuration)
-            × (standings work ≡ first_standing m ∷ []) × IsAtFirst player.now m) }
+            × (waiting_plays work ≡ first_waiting m ∷ []) × IsAtFirst player.now m) }
     {
         let mut plans = Vec::new(alloc);
         plans.push(Plan::first(alloc)?)?;
@@ -186,9 +186,9 @@ impl Worklist {
     /// Takes out plays that have the fewest commands done, of those in one state, and goes
     /// to this state.
     pub(crate) fn next(&mut self, alloc: Global) -> Option<Plan>
-        ensures none { IfNone result (standings self.old ≡ []) }
-        ensures some { IfSome result (λ plan. Takes (standings self.old)
-            (planned self.new.state plan) (standings self.new)) }
+        ensures none { IfNone result (waiting_plays self.old ≡ []) }
+        ensures some { IfSome result (λ plan. Takes (waiting_plays self.old)
+            (planned self.new.state plan) (waiting_plays self.new)) }
     {
         if let Some(plan) = self.plans.pop() {
             return Some(plan);
@@ -229,8 +229,8 @@ impl Worklist {
         bound: i16,
     ) -> Result<(), AllocError>
         requires { pos 1 ≤ℤ bound }
-        ensures added { OnOk result (Takes (standings self.new)
-            (after_answer (planned self.old.state plan.now) bound answer) (standings self.old)) }
+        ensures added { OnOk result (Takes (waiting_plays self.new)
+            (after_answer (planned self.old.state plan.now) bound answer) (waiting_plays self.old)) }
         ensures state { self.new.state ≡ self.old.state }
     {
         let answered = plan.answered(alloc, answer, bound)?;
@@ -251,7 +251,7 @@ impl Worklist {
     ) -> Result<(), AllocError>
         requires { pos 1 ≤ℤ bound }
         ensures { OnOk result (PutsAnswers (planned self.old.state plan.now) bound
-            (unsigned_abs bound) (standings self.old) (standings self.new)) }
+            (unsigned_abs bound) (waiting_plays self.old) (waiting_plays self.new)) }
     {
         let mut answer = 0;
         while answer < bound {
@@ -272,7 +272,7 @@ impl Worklist {
     ///
     /// Where a growth was refused memory.
     pub(crate) fn add(&mut self, alloc: Global, waiting: Waiting) -> Result<(), AllocError>
-        ensures { OnOk result (Puts (standings self.old) (unplanned waiting) (standings self.new)) }
+        ensures { OnOk result (Puts (waiting_plays self.old) (unplanned waiting) (waiting_plays self.new)) }
     {
         let key = waiting.state.key();
         let Some(other) = self.states.get_mut(&key) else {

@@ -34,7 +34,7 @@ pub use Rattle.ptb_machine.specs.Jumps.{Jumps}
 pub use Rattle.ptb_machine.specs.KnownLoops.{Brings, IsEntryOf, IsKnown, loop_with}
 pub use Rattle.ptb_machine.specs.PlainRuns.{GoesBy, HasLine, PlaysWith, ReadsLines, WantsMemory}
 pub use Rattle.ptb_machine.specs.Play.{play, next_number}
-pub use Rattle.ptb_machine.specs.Positions.{IsFound, IsLedTo, Stands, standing}
+pub use Rattle.ptb_machine.specs.Positions.{IsFound, IsLedTo, Stands, place_at}
 pub use Rattle.ptb_machine.specs.ProgramCode.{IsNextCode, IsCodeTable, IsProgramCode, IsCommandAt, HasShortForms}
 pub use Rattle.ptb_machine.specs.ProgramCode.{code_from}
 pub use Rattle.ptb_machine.specs.RunDevices.{lent, run_devices}

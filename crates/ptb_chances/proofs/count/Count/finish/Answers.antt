@@ -1,7 +1,7 @@
 -- This file answers that all runs stay accounted for, up to the last.
 use Rattle.std.proofs.Common.{rules, ◌≡◌, List, [], subst, ◌∙◌}
 use Rattle.ptb_chances.specs.CountedRuns.{IsTallied}
-use Rattle.ptb_chances.specs.WaitingPlays.{Standing, planned, standings}
+use Rattle.ptb_chances.specs.WaitingPlays.{WaitingPlay, planned, waiting_plays}
 use Rattle.ptb_chances.proofs.WorkLeft.{less_there}
 use Rattle.ptb_chances.proofs.SettledPlays.{accounted_next}
 use Rattle.ptb_chances.proofs.count.Count.finish.Goals as goal
@@ -17,7 +17,8 @@ plans-smaller g c =
     let l = c.plans in
     let i = l.invariant in
     less_there s.player l.self.stage.player s.devices.source.lines l.self.stage.devices.source.lines s.rules
-    l.self.stage.rules (standings l.self.work) (standings c.next.new.self) (standings c.settle.new.self.work)
+    l.self.stage.rules (waiting_plays l.self.work) (waiting_plays c.next.new.self)
+        (waiting_plays c.settle.new.self.work)
     (planned c.next.new.self.state c.in-Some.plan) i.player i.lines i.rules c.in-Some.ensures.some
     c.in_ok-settle.ensures.less
 
@@ -34,6 +35,6 @@ plans-preserved g c =
 
 pub returns-in_default : goal.returns-in_default
 returns-in_default g c =
-    let none : standings c.plans.self.work ≡ [] = search rules in
-    rw c.replace.ensures.value (subst (λ (ws : List Standing). IsTallied c.args.self.now.stage c.plans.self.tally ws)
+    let none : waiting_plays c.plans.self.work ≡ [] = search rules in
+    rw c.replace.ensures.value (subst (λ (ws : List WaitingPlay). IsTallied c.args.self.now.stage c.plans.self.tally ws)
     none c.plans.invariant.accounted)

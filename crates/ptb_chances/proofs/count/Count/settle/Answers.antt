@@ -2,7 +2,7 @@
 use Rattle.std.proofs.Common.{rules, ◌<◌, w16, FitsSigned, to_z-of_z}
 use Rattle.std.specs.Prelude.{unsigned_abs}
 use Rattle.ptb_machine.specs.Questions.{most_answers}
-use Rattle.ptb_chances.specs.WaitingPlays.{Puts, gone_to, planned, standings}
+use Rattle.ptb_chances.specs.WaitingPlays.{Puts, gone_to, planned, waiting_plays}
 use Rattle.ptb_chances.proofs.PassedResults.{on_ok}
 use Rattle.ptb_chances.proofs.WorkLeft.{work_asked, work_gone, work_some}
 use Rattle.ptb_chances.proofs.SettledPlays.{asked_positive, one_opens, planned_less, settled_asked}
@@ -35,14 +35,14 @@ returns-in-Over-clause-less c =
     let s = c.args.self.now in
     on_ok c.add_over.result c.add_over.ensures (λ _. work_some s.stage.rules.limit
     (most_answers s.stage.player s.stage.devices.source.lines s.stage.rules.limit) (planned s.work.state c.args.plan)
-    (standings s.work))
+    (waiting_plays s.work))
 
 pub returns-in-Asks-clause-counted : goal.returns-in-Asks-clause-counted
 returns-in-Asks-clause-counted c =
     let plays = rw c.in-Asks.is at c.in_ok-played.ensures.plays.1 in
     let fits : FitsSigned w16 c.in-Asks.bound = search rules in
     on_ok c.add_plans.result c.add_plans.ensures (λ put. settled_asked _ _ _ _ _ _ _ c.requires
-    (c.run_laws.ensures.reads _ _ _) c.in-Asks.bound plays (standings c.add_plans.new.self)
+    (c.run_laws.ensures.reads _ _ _) c.in-Asks.bound plays (waiting_plays c.add_plans.new.self)
     (rw (to_z-of_z fits) at put))
 
 pub returns-in-Asks-clause-less : goal.returns-in-Asks-clause-less
@@ -52,7 +52,7 @@ returns-in-Asks-clause-less c =
     let few : unsigned_abs c.in-Asks.bound < 65536 = search rules in
     on_ok c.add_plans.result c.add_plans.ensures (λ put. work_asked c.args.self.now.stage.rules.limit _ _
     c.in-Asks.bound (planned_less _ _ _ _ _ _ _ c.requires (c.run_laws.ensures.reads _ _ _) c.in-Asks.bound plays)
-    (unsigned_abs c.in-Asks.bound) _ (standings c.add_plans.new.self) few (rw (to_z-of_z fits) at put))
+    (unsigned_abs c.in-Asks.bound) _ (waiting_plays c.add_plans.new.self) few (rw (to_z-of_z fits) at put))
 
 pub returns-in-Goes-clause-counted : goal.returns-in-Goes-clause-counted
 returns-in-Goes-clause-counted c =
@@ -60,8 +60,8 @@ returns-in-Goes-clause-counted c =
     let goes = c.in_ok-played.ensures.goes c.in-Goes.is in
     on_ok c.add.result c.add.ensures (λ there.
     let before = c.play.new.self.before in
-    let put : Puts (standings c.args.self.now.work) (gone_to before.machine before.taken before.shown.items
-    c.args.plan.chance c.args.plan.runs) (standings c.add.new.self) =
+    let put : Puts (waiting_plays c.args.self.now.work) (gone_to before.machine before.taken before.shown.items
+    c.args.plan.chance c.args.plan.runs) (waiting_plays c.add.new.self) =
     rw (c.at.ensures, c.replace-state.ensures.value) at there in
     settled_gone _ _ _ _ _ _ _ c.requires _ _ _ _ plays goes.0 goes.2 put)
 
@@ -71,7 +71,7 @@ returns-in-Goes-clause-less c =
     let goes = c.in_ok-played.ensures.goes c.in-Goes.is in
     on_ok c.add.result c.add.ensures (λ there.
     let before = c.play.new.self.before in
-    let put : Puts (standings s.work) (gone_to before.machine before.taken before.shown.items c.args.plan.chance
-    c.args.plan.runs) (standings c.add.new.self) = rw (c.at.ensures, c.replace-state.ensures.value) at there in
+    let put : Puts (waiting_plays s.work) (gone_to before.machine before.taken before.shown.items c.args.plan.chance
+    c.args.plan.runs) (waiting_plays c.add.new.self) = rw (c.at.ensures, c.replace-state.ensures.value) at there in
     work_gone s.stage.rules.limit (most_answers s.stage.player s.stage.devices.source.lines s.stage.rules.limit)
-    (standings s.work) _ (planned s.work.state c.args.plan) _ put goes.1)
+    (waiting_plays s.work) _ (planned s.work.state c.args.plan) _ put goes.1)

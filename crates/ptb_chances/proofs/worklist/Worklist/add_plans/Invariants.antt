@@ -1,7 +1,7 @@
 -- This file says that the plays after the answers so far were put in.
 use Rattle.std.proofs.Common.{◌≡◌, ◌-◌}
 use Rattle.std.specs.Prelude.{pos, ◌≤ℤ◌, unsigned_abs}
-use Rattle.ptb_chances.specs.WaitingPlays.{PutsAnswers, planned, standings}
+use Rattle.ptb_chances.specs.WaitingPlays.{PutsAnswers, planned, waiting_plays}
 use Rattle.ptb_chances.proofs.worklist.Worklist.add_plans.Given as goal
 
 abbrev pub invariant-loop-answer : goal.invariant-loop-answer
@@ -9,8 +9,8 @@ invariant-loop-answer l = record {
   state : l.self.state ≡ l.fn.self.state;
   low : pos 0 ≤ℤ l.answer;
   high : l.answer ≤ℤ l.bound;
-  puts : PutsAnswers (planned l.fn.self.state l.fn.plan) l.bound (unsigned_abs l.answer) (standings l.fn.self)
-      (standings l.self);
+  puts : PutsAnswers (planned l.fn.self.state l.fn.plan) l.bound (unsigned_abs l.answer) (waiting_plays l.fn.self)
+      (waiting_plays l.self);
 }
 
 abbrev pub decreases-loop-answer : goal.decreases-loop-answer
