@@ -15,7 +15,7 @@ use Rattle.ptb_expr.specs.declared.operator.Operator.{Operator}
 use Rattle.ptb_expr.specs.declared.operator.Operator.TheVariants as operators
 use Rattle.ptb_expr.specs.declared.step.Step.{Step}
 use Rattle.ptb_expr.specs.declared.step.Unary.{Unary}
-use Rattle.ptb_expr.specs.declared.step.Unary.TheVariants.{Itself, Minus}
+use Rattle.ptb_expr.specs.declared.step.Unary.TheVariants.{Itself, Negate}
 use Rattle.ptb_expr.specs.declared.fault.FaultKind.TheVariants.{How}
 use Rattle.ptb_expr.specs.declared.reader.Start.{Start}
 use Rattle.ptb_expr.specs.declared.reader.Start.TheVariants as starts
@@ -42,7 +42,7 @@ IsLater _ = ⊥
 
 -- what is done with the first product
 abbrev pub sign_of : ProductSign → Unary
-sign_of signs.Sign = Minus
+sign_of signs.Sign = Negate
 sign_of _ = Itself
 
 -- the operator before a later one
@@ -54,7 +54,7 @@ abbrev pub with_before : ProductSign → ℕ → List Step → List Step
 with_before signs.Plus m xs = with_operator operators.Plus m xs
 with_before signs.Minus m xs = with_operator operators.Minus m xs
 with_before signs.Nothing m xs = xs
-with_before signs.Sign m xs = xs ++ unary_steps Minus m
+with_before signs.Sign m xs = xs ++ unary_steps Negate m
 
 abbrev pub room_before : ProductSign → ℕ
 room_before signs.Nothing = 0

@@ -819,7 +819,7 @@ fn are_single_values(store: &Store) -> bool {
     single_value(&Step::Number(7), store) == Some(7)
         && single_value(&variable, store) == Some(100)
         && single_value(&Step::Size, store) == Some(4)
-        && single_value(&Step::Minus(0), store).is_none()
+        && single_value(&Step::Negate(0), store).is_none()
         && single_value(&Step::Ask(0), store).is_none()
 }
 
