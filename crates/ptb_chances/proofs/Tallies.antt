@@ -10,9 +10,9 @@ use Rattle.std.specs.declared.cmp.Ordering.TheVariants.{Less, Equal, Greater}
 use Rattle.ptb_numbers.specs.Fractions.{Ratio}
 use Rattle.ptb_chances.specs.Chances.{Row, result_order}
 use Rattle.ptb_chances.specs.declared.result_key.ResultKey.{ResultKey}
-use Rattle.ptb_chances.specs.declared.tally.ResultShare.{ResultShare}
+use Rattle.ptb_chances.specs.declared.tally.ResultTotal.{ResultTotal}
 use Rattle.ptb_chances.specs.Accounts.{AreAlike, AddsRow, AreSame, HasChance, ArePositive}
-use Rattle.ptb_chances.specs.Keys.{Joins, key_result, row_of_share, rows_of}
+use Rattle.ptb_chances.specs.Keys.{Joins, key_result, row_of_total, rows_of}
 use Rattle.ptb_chances.proofs.Accounts.{alike_self, alike_then, alike_back, alike_more}
 use Rattle.ptb_chances.proofs.Accounts.{alike_turned, same_from_alike, same_alike, alike_same}
 use Rattle.ptb_chances.proofs.Accounts.{joined}
@@ -27,26 +27,26 @@ row k chance runs = record { result = key_result k; chance = chance; runs = runs
 module _ (key : ResultKey) where
   -- ---- where the key is not there
 
-  inserted : (v : ResultShare) (es : List (ResultKey × ResultShare)) → lookup (is_at (order key)) es ≡ None
-      → AreAlike (rows_of (insert_entry order es key v)) (row_of_share (key, v) ∷ rows_of es)
-  inserted v [] none = alike_self (row_of_share (key, v) ∷ [])
+  inserted : (v : ResultTotal) (es : List (ResultKey × ResultTotal)) → lookup (is_at (order key)) es ≡ None
+      → AreAlike (rows_of (insert_entry order es key v)) (row_of_total (key, v) ∷ rows_of es)
+  inserted v [] none = alike_self (row_of_total (key, v) ∷ [])
   inserted v (e ∷ es) none = by_order (inserted v es) (order key e.0) none
     where
       by_order : (lookup (is_at (order key)) es ≡ None
-          → AreAlike (rows_of (insert_entry order es key v)) (row_of_share (key, v) ∷ rows_of es))
+          → AreAlike (rows_of (insert_entry order es key v)) (row_of_total (key, v) ∷ rows_of es))
           → (o : Ordering) → cond (is_eq o) (Some e.1) (lookup (is_at (order key)) es) ≡ None
           → AreAlike (rows_of (match_ordering o ((key, v) ∷ e ∷ es) ((e.0, v) ∷ es) (e ∷ insert_entry order es key v)))
-          (row_of_share (key, v) ∷ row_of_share e ∷ rows_of es)
-      by_order later Less h = alike_self (row_of_share (key, v) ∷ row_of_share e ∷ rows_of es)
+          (row_of_total (key, v) ∷ row_of_total e ∷ rows_of es)
+      by_order later Less h = alike_self (row_of_total (key, v) ∷ row_of_total e ∷ rows_of es)
       by_order later Equal h = absurd cc
       by_order later Greater h =
-          alike_then (row_of_share e ∷ rows_of (insert_entry order es key v)) (row_of_share e ∷ row_of_share (key, v)
-          ∷ rows_of es) (row_of_share (key, v) ∷ row_of_share e ∷ rows_of es)
-          (alike_more (row_of_share e) (rows_of (insert_entry order es key v)) (row_of_share (key, v) ∷ rows_of es)
+          alike_then (row_of_total e ∷ rows_of (insert_entry order es key v)) (row_of_total e ∷ row_of_total (key, v)
+          ∷ rows_of es) (row_of_total (key, v) ∷ row_of_total e ∷ rows_of es)
+          (alike_more (row_of_total e) (rows_of (insert_entry order es key v)) (row_of_total (key, v) ∷ rows_of es)
           (later h))
-          (alike_turned (row_of_share e) (row_of_share (key, v)) (rows_of es))
+          (alike_turned (row_of_total e) (row_of_total (key, v)) (rows_of es))
 
-  none_removed : (es : List (ResultKey × ResultShare)) → lookup (is_at (order key)) es ≡ None
+  none_removed : (es : List (ResultKey × ResultTotal)) → lookup (is_at (order key)) es ≡ None
       → remove_entry (is_at (order key)) es ≡ es
   none_removed [] none = refl
   none_removed (e ∷ es) none = by_test (none_removed es) (is_at (order key) e.0) none
@@ -59,8 +59,8 @@ module _ (key : ResultKey) where
 
   -- ---- where it is there
 
-  same_row : (k : ResultKey) (v w : ResultShare) → is_eq (order key k) ≡ true → Some w ≡ Some v
-      → row_of_share (k, w) ≡ row_of_share (key, v)
+  same_row : (k : ResultKey) (v w : ResultTotal) → is_eq (order key k) ≡ true → Some w ≡ Some v
+      → row_of_total (k, w) ≡ row_of_total (key, v)
   same_row k v w h is =
       let same : w ≡ v = cc in
       let result : key_result k ≡ key_result key =
@@ -72,29 +72,29 @@ module _ (key : ResultKey) where
       equal_from Equal h = refl
       equal_from Greater h = absurd cc
 
-  taken_out : (v : ResultShare) (es : List (ResultKey × ResultShare)) → lookup (is_at (order key)) es ≡ Some v
-      → AreAlike (rows_of es) (row_of_share (key, v) ∷ rows_of (remove_entry (is_at (order key)) es))
+  taken_out : (v : ResultTotal) (es : List (ResultKey × ResultTotal)) → lookup (is_at (order key)) es ≡ Some v
+      → AreAlike (rows_of es) (row_of_total (key, v) ∷ rows_of (remove_entry (is_at (order key)) es))
   taken_out v [] is = absurd cc
   taken_out v (e ∷ es) is = by_test (taken_out v es) (is_at (order key) e.0) refl is
     where
       by_test : (lookup (is_at (order key)) es ≡ Some v
-          → AreAlike (rows_of es) (row_of_share (key, v) ∷ rows_of (remove_entry (is_at (order key)) es)))
+          → AreAlike (rows_of es) (row_of_total (key, v) ∷ rows_of (remove_entry (is_at (order key)) es)))
           → (b : Bool) → is_at (order key) e.0 ≡ b → cond b (Some e.1) (lookup (is_at (order key)) es) ≡ Some v
-          → AreAlike (row_of_share e ∷ rows_of es)
-          (row_of_share (key, v) ∷ rows_of (cond b es (e ∷ remove_entry (is_at (order key)) es)))
-      by_test later true test h = subst (λ (w : Row). AreAlike (row_of_share e ∷ rows_of es) (w ∷ rows_of es))
-          (same_row e.0 v e.1 test h) (alike_self (row_of_share e ∷ rows_of es))
+          → AreAlike (row_of_total e ∷ rows_of es)
+          (row_of_total (key, v) ∷ rows_of (cond b es (e ∷ remove_entry (is_at (order key)) es)))
+      by_test later true test h = subst (λ (w : Row). AreAlike (row_of_total e ∷ rows_of es) (w ∷ rows_of es))
+          (same_row e.0 v e.1 test h) (alike_self (row_of_total e ∷ rows_of es))
       by_test later false test h =
-          alike_then (row_of_share e ∷ rows_of es)
-          (row_of_share e ∷ row_of_share (key, v) ∷ rows_of (remove_entry (is_at (order key)) es))
-          (row_of_share (key, v) ∷ row_of_share e ∷ rows_of (remove_entry (is_at (order key)) es))
-          (alike_more (row_of_share e) (rows_of es)
-          (row_of_share (key, v) ∷ rows_of (remove_entry (is_at (order key)) es)) (later h))
-          (alike_turned (row_of_share e) (row_of_share (key, v)) (rows_of (remove_entry (is_at (order key)) es)))
+          alike_then (row_of_total e ∷ rows_of es)
+          (row_of_total e ∷ row_of_total (key, v) ∷ rows_of (remove_entry (is_at (order key)) es))
+          (row_of_total (key, v) ∷ row_of_total e ∷ rows_of (remove_entry (is_at (order key)) es))
+          (alike_more (row_of_total e) (rows_of es)
+          (row_of_total (key, v) ∷ rows_of (remove_entry (is_at (order key)) es)) (later h))
+          (alike_turned (row_of_total e) (row_of_total (key, v)) (rows_of (remove_entry (is_at (order key)) es)))
 
   -- ---- rows that are positive
 
-  insert_positive : (v : ResultShare) (es : List (ResultKey × ResultShare)) → HasChance (row_of_share (key, v))
+  insert_positive : (v : ResultTotal) (es : List (ResultKey × ResultTotal)) → HasChance (row_of_total (key, v))
       → ArePositive (rows_of es) → lookup (is_at (order key)) es ≡ None
       → ArePositive (rows_of (insert_entry order es key v))
   insert_positive v [] one all none = (one, tt)
@@ -108,7 +108,7 @@ module _ (key : ResultKey) where
       by_order later Equal h = absurd cc
       by_order later Greater h = (all.0, later h)
 
-  remove_positive : (es : List (ResultKey × ResultShare)) → ArePositive (rows_of es)
+  remove_positive : (es : List (ResultKey × ResultTotal)) → ArePositive (rows_of es)
       → ArePositive (rows_of (remove_entry (is_at (order key)) es))
   remove_positive [] all = tt
   remove_positive (e ∷ es) all = by_test (remove_positive es all.1) (is_at (order key) e.0)
@@ -120,45 +120,45 @@ module _ (key : ResultKey) where
 
   -- ---- what was added
 
-  module _ (chance : Ratio) (runs : ℕ) (share : ResultShare) (es : List (ResultKey × ResultShare)) where
-    share_positive : (old : Option ResultShare) → Joins old chance runs share → HasChance (row key chance runs)
-        → HasChance (row_of_share (key, share))
-    share_positive None j one = record { denominator = rw j.0 (one.denominator); runs = rw j.1 (one.runs) }
-    share_positive (Some v) j one = record { denominator = j.1; runs = omega (arith, j.2, one.runs) }
+  module _ (chance : Ratio) (runs : ℕ) (total : ResultTotal) (es : List (ResultKey × ResultTotal)) where
+    total_positive : (old : Option ResultTotal) → Joins old chance runs total → HasChance (row key chance runs)
+        → HasChance (row_of_total (key, total))
+    total_positive None j one = record { denominator = rw j.0 (one.denominator); runs = rw j.1 (one.runs) }
+    total_positive (Some v) j one = record { denominator = j.1; runs = omega (arith, j.2, one.runs) }
 
-    same_after : (old : Option ResultShare) → old ≡ lookup (is_at (order key)) es → Joins old chance runs share
-        → AreSame (row_of_share (key, share) ∷ rows_of (remove_entry (is_at (order key)) es))
+    same_after : (old : Option ResultTotal) → old ≡ lookup (is_at (order key)) es → Joins old chance runs total
+        → AreSame (row_of_total (key, total) ∷ rows_of (remove_entry (is_at (order key)) es))
         (row key chance runs ∷ rows_of es)
     same_after None is j =
-        let whole : row_of_share (key, share) ≡ row key chance runs = rw (j.0, j.1) refl in
+        let whole : row_of_total (key, total) ≡ row key chance runs = rw (j.0, j.1) refl in
         let rest = ap rows_of (none_removed es (sym is)) in
-        same_from_alike (row_of_share (key, share) ∷ rows_of (remove_entry (is_at (order key)) es))
+        same_from_alike (row_of_total (key, total) ∷ rows_of (remove_entry (is_at (order key)) es))
         (row key chance runs ∷ rows_of es)
         (rw (whole, rest) (alike_self (row key chance runs ∷ rows_of es)))
     same_after (Some v) is j =
-        same_alike (row_of_share (key, share) ∷ rows_of (remove_entry (is_at (order key)) es))
-        (row key chance runs ∷ row_of_share (key, v) ∷ rows_of (remove_entry (is_at (order key)) es))
+        same_alike (row_of_total (key, total) ∷ rows_of (remove_entry (is_at (order key)) es))
+        (row key chance runs ∷ row_of_total (key, v) ∷ rows_of (remove_entry (is_at (order key)) es))
         (row key chance runs ∷ rows_of es)
-        (joined (row key chance runs) (row_of_share (key, v)) (row_of_share (key, share))
+        (joined (row key chance runs) (row_of_total (key, v)) (row_of_total (key, total))
         (rows_of (remove_entry (is_at (order key)) es)) refl refl j.0 j.2)
-        (alike_more (row key chance runs) (row_of_share (key, v) ∷ rows_of (remove_entry (is_at (order key)) es))
+        (alike_more (row key chance runs) (row_of_total (key, v) ∷ rows_of (remove_entry (is_at (order key)) es))
         (rows_of es) (alike_back (rows_of es)
-        (row_of_share (key, v) ∷ rows_of (remove_entry (is_at (order key)) es)) (taken_out v es (sym is))))
+        (row_of_total (key, v) ∷ rows_of (remove_entry (is_at (order key)) es)) (taken_out v es (sym is))))
 
-    pub added : (old : Option ResultShare) (es' es'' : List (ResultKey × ResultShare))
+    pub added : (old : Option ResultTotal) (es' es'' : List (ResultKey × ResultTotal))
         → old ≡ lookup (is_at (order key)) es
         → es' ≡ remove_entry (is_at (order key)) es → lookup (is_at (order key)) es' ≡ None
-        → es'' ≡ insert_entry order es' key share → Joins old chance runs share
+        → es'' ≡ insert_entry order es' key total → Joins old chance runs total
         → AddsRow (rows_of es) (row key chance runs) (rows_of es'')
     added old es' es'' is removed none insert j = record {
       same =
-          let alike : AreAlike (rows_of es'') (row_of_share (key, share) ∷ rows_of es') =
-          rw insert (inserted share es' none) in
-          let rest : AreAlike (rows_of es'') (row_of_share (key, share) ∷ rows_of
-          (remove_entry (is_at (order key)) es)) = subst (λ (fs : List (ResultKey × ResultShare)). AreAlike
-          (rows_of es'') (row_of_share (key, share) ∷ rows_of fs)) removed alike in
-          alike_same (rows_of es'') (row_of_share (key, share) ∷ rows_of (remove_entry (is_at (order key)) es))
+          let alike : AreAlike (rows_of es'') (row_of_total (key, total) ∷ rows_of es') =
+          rw insert (inserted total es' none) in
+          let rest : AreAlike (rows_of es'') (row_of_total (key, total) ∷ rows_of
+          (remove_entry (is_at (order key)) es)) = subst (λ (fs : List (ResultKey × ResultTotal)). AreAlike
+          (rows_of es'') (row_of_total (key, total) ∷ rows_of fs)) removed alike in
+          alike_same (rows_of es'') (row_of_total (key, total) ∷ rows_of (remove_entry (is_at (order key)) es))
           (row key chance runs ∷ rows_of es) rest (same_after old is j);
       positive = λ one all. rw insert
-          (insert_positive share es' (share_positive old j one) (rw removed (remove_positive es all)) none);
+          (insert_positive total es' (total_positive old j one) (rw removed (remove_positive es all)) none);
     }

@@ -20,7 +20,7 @@ pub use Rattle.ptb_text.specs.Lines.{lines}
 pub use Rattle.ptb_chances.specs.Accounts.{AddsRow, IsAccountOf, ResultsRise, reduced}
 pub use Rattle.ptb_chances.specs.Continuations.{ComesTo, GoesOn}
 pub use Rattle.ptb_chances.specs.CountedRuns.{IsTallied, work_to_do}
-pub use Rattle.ptb_chances.specs.Keys.{key_result, result_text, row_of_share, share_text}
+pub use Rattle.ptb_chances.specs.Keys.{key_result, result_text, row_of_total, total_text}
 pub use Rattle.ptb_chances.specs.Order.{result_order_total}
 pub use Rattle.ptb_chances.specs.TableLaws.{TableLaws}
 pub use Rattle.ptb_chances.specs.StagePlays.{CanPlay, PlaysTo, SameEnd, IsStageAt, IsStageAtSaved}

@@ -2,10 +2,10 @@
 
 ghost use Rattle.std.specs.Prelude.{◌≡◌, ◌++◌, map, IfOk, OnOk};
 ghost use Rattle.ptb_chances.specs.Prelude.{lowest, decimals, ratio_of, field, ratio_text, row_text, table_text};
-ghost use Rattle.ptb_chances.specs.Prelude.{ResultsRise, reduced, key_result, result_text, row_of_share, share_text};
+ghost use Rattle.ptb_chances.specs.Prelude.{ResultsRise, reduced, key_result, result_text, row_of_total, total_text};
 
 use crate::result_key::ResultKey;
-use crate::tally::{ResultShare, Tally};
+use crate::tally::{ResultTotal, Tally};
 use ptb_machine::ending_word;
 use ptb_numbers::{LowestTerms, Natural};
 use std::alloc::{AllocError, Global};
@@ -39,13 +39,13 @@ fn write_number(alloc: Global, number: &Natural, text: &mut Vec<u8>) -> Result<(
 }
 
 // Writes a chance in lowest terms, and a number of runs, at the end of a text.
-fn write_share(alloc: Global, share: &ResultShare, text: &mut Vec<u8>) -> Result<(), AllocError>
-    ensures { OnOk result (text.new.items ≡ text.old.items ++ share_text (lowest share.now.chance)
-        share.now.runs) }
+fn write_total(alloc: Global, total: &ResultTotal, text: &mut Vec<u8>) -> Result<(), AllocError>
+    ensures { OnOk result (text.new.items ≡ text.old.items ++ total_text (lowest total.now.chance)
+        total.now.runs) }
 {
     text.extend_from_slice(b"CHANCE ")?;
-    write_ratio(alloc, &share.chance.lowest_terms(alloc)?, text)?;
-    write_number(alloc, &share.runs, text)
+    write_ratio(alloc, &total.chance.lowest_terms(alloc)?, text)?;
+    write_number(alloc, &total.runs, text)
 }
 
 // Writes a result at the end of a text.
@@ -64,13 +64,13 @@ fn write_result(alloc: Global, key: &ResultKey, text: &mut Vec<u8>) -> Result<()
 fn write_row(
     alloc: Global,
     key: &ResultKey,
-    share: &ResultShare,
+    total: &ResultTotal,
     text: &mut Vec<u8>,
 ) -> Result<(), AllocError>
     ensures { OnOk result (text.new.items
-        ≡ text.old.items ++ row_text (reduced (row_of_share (key.now, share.now)))) }
+        ≡ text.old.items ++ row_text (reduced (row_of_total (key.now, total.now)))) }
 {
-    write_share(alloc, share, text)?;
+    write_total(alloc, total, text)?;
     write_result(alloc, key, text)
 }
 
@@ -85,8 +85,8 @@ impl Tally {
         ensures rising { ResultsRise self.now }
     {
         let mut text = Vec::new(alloc);
-        for (key, share) in self.shares.iter() {
-            write_row(alloc, key, share, &mut text)?;
+        for (key, total) in self.totals.iter() {
+            write_row(alloc, key, total, &mut text)?;
         }
         Ok(text)
     }

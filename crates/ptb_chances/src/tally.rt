@@ -13,7 +13,7 @@ use std::marker::Model;
 
 /// The sum of the chances of some runs, and how many they are.
 #[derive(Drop)]
-pub(crate) struct ResultShare {
+pub(crate) struct ResultTotal {
     pub(crate) chance: Fraction,
     pub(crate) runs: Natural,
 }
@@ -21,7 +21,7 @@ pub(crate) struct ResultShare {
 /// What some runs result in, with the chance of each result.
 #[derive(Drop)]
 pub(crate) struct Tally {
-    pub(crate) shares: BTreeMap<ResultKey, ResultShare>,
+    pub(crate) totals: BTreeMap<ResultKey, ResultTotal>,
 }
 
 impl Model for Tally {
@@ -31,27 +31,27 @@ impl Model for Tally {
 
     ghost Value = { List Row };
 
-    ghost view = { λ t. rows_of t.shares.entries };
+    ghost view = { λ t. rows_of t.totals.entries };
 }
 
-// A share with a chance and a number of runs more, or one that has these alone.
+// A total with a chance and a number of runs more, or one that has these alone.
 fn joined(
     alloc: Global,
-    old: Option<ResultShare>,
+    old: Option<ResultTotal>,
     chance: &Fraction,
     runs: &Natural,
-) -> Result<ResultShare, AllocError>
-    ensures { IfOk result (λ share. Joins old chance.now runs.now share) }
+) -> Result<ResultTotal, AllocError>
+    ensures { IfOk result (λ total. Joins old chance.now runs.now total) }
 {
     match old {
-        None => Ok(ResultShare {
+        None => Ok(ResultTotal {
             chance: chance.copy(alloc)?,
             runs: runs.copy(alloc)?,
         }),
-        Some(mut share) => {
-            share.chance.add(alloc, chance)?;
-            share.runs.add(runs)?;
-            Ok(share)
+        Some(mut total) => {
+            total.chance.add(alloc, chance)?;
+            total.runs.add(runs)?;
+            Ok(total)
         }
     }
 }
@@ -62,7 +62,7 @@ impl Tally {
         ensures { result ≡ [] }
     {
         Tally {
-            shares: BTreeMap::new(alloc),
+            totals: BTreeMap::new(alloc),
         }
     }
 
@@ -84,9 +84,9 @@ impl Tally {
           runs = runs.now;
         }) self.new) }
     {
-        let old = self.shares.remove(&key);
-        let share = joined(alloc, old, chance, runs)?;
-        self.shares.insert(key, share)?;
+        let old = self.totals.remove(&key);
+        let total = joined(alloc, old, chance, runs)?;
+        self.totals.insert(key, total)?;
         Ok(())
     }
 
@@ -97,8 +97,8 @@ impl Tally {
     /// Where a growth was refused memory.
     pub(crate) fn billionths(&self, alloc: Global) -> Result<u32, AllocError> {
         let mut sum: u32 = 0;
-        for (_, share) in self.shares.iter() {
-            let part = share.chance.rounded_product(alloc, 1_000_000_000)?;
+        for (_, total) in self.totals.iter() {
+            let part = total.chance.rounded_product(alloc, 1_000_000_000)?;
             // No chance is greater than 1, so the part is a word: it is its own remainder.
             sum = sum.saturating_add(part.remainder(u32::MAX));
         }

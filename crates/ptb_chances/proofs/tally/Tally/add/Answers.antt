@@ -10,7 +10,7 @@ pub returns : goal.returns
 returns c =
     let row : Row = record { result = key_result c.args.key; chance = c.args.chance.now; runs = c.args.runs.now } in
     subst (λ (old : List Row). AddsRow old row (rows_of c.insert.new.self.entries)) c.self.view_is
-    (added c.args.key c.args.chance.now c.args.runs.now c.in_ok-share.share c.self.inside.shares.entries
+    (added c.args.key c.args.chance.now c.args.runs.now c.in_ok-total.total c.self.inside.totals.entries
     c.remove-old.result c.remove-old.new.self.entries c.insert.new.self.entries
     c.remove-old.ensures.value c.remove-old.ensures.entries (c.remove-old.ensures.updates.1)
-    c.in_ok-insert.ensures.entries c.in_ok-share.ensures)
+    c.in_ok-insert.ensures.entries c.in_ok-total.ensures)
