@@ -7,7 +7,7 @@ use Rattle.ptb_expr.specs.Store.{Cells}
 use Rattle.ptb_expr.specs.Value.{Work, fault, or_fault}
 use Rattle.ptb_command.specs.declared.stop.CommandStop.{CommandStop}
 use Rattle.ptb_command.specs.declared.stop.CommandStop.TheVariants as stops
-use Rattle.ptb_command.specs.Actions.{Faults, Halt, Action, and_then, goes_on, halt, show, attempt}
+use Rattle.ptb_command.specs.Actions.{Faults, Halt, Action, and_then, goes_on, halt, show, evaluation}
 use Rattle.ptb_command.specs.Actions.{or_halt, work_action}
 use Rattle.ptb_command.specs.Devices.{Refusal, nothing_refused}
 use Rattle.ptb_command.specs.Traces.{Trace, with_pending, still_pending, RefinesPart}
@@ -16,7 +16,7 @@ use Rattle.ptb_command.proofs.PendingBytes.{stops_pending}
 use Rattle.ptb_command.proofs.Effects.{then_keeps, takes_itself}
 use Rattle.ptb_command.proofs.PartRefinement.{refines_part_refl, refines_part_under}
 use Rattle.ptb_command.proofs.Stops.{GoesForward, forward_itself, forward_joined, Adds}
-use Rattle.ptb_command.proofs.Stops.{attempt_adds, or_halt_adds, stops_more}
+use Rattle.ptb_command.proofs.Stops.{evaluation_adds, or_halt_adds, stops_more}
 
 -- ---- what takes back nothing that was shown, and gives back no line
 
@@ -34,7 +34,7 @@ pub then_adds : {A B : Type 0} (f : Action A) (next : A → Action B) → Adds f
 then_adds f next a b = then_keeps GoesForward forward_joined f next a b
 
 pub work_action_adds : {A : Type 0} (f : Cells → Work A) → Adds (work_action f)
-work_action_adds f = then_adds (attempt f) or_halt (attempt_adds f) or_halt_adds
+work_action_adds f = then_adds (evaluation f) or_halt (evaluation_adds f) or_halt_adds
 
 -- ---- one after the other
 

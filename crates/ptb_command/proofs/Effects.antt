@@ -21,8 +21,8 @@ use Rattle.ptb_expr.specs.Reading.{item_of, expression}
 use Rattle.ptb_expr.specs.Value.{Work, random_number, value}
 use Rattle.ptb_command.specs.Commands.{Part, Assign, Say, Width, Show, NewLine, Take, Letter, Operand, Defect, Command}
 use Rattle.ptb_command.specs.State.{Place, Loop, Call, State, text_of, nesting, nesting_limit}
-use Rattle.ptb_command.specs.Actions.{Halt, Faults, Ends, Progress, Goes, Halts, Action}
-use Rattle.ptb_command.specs.Actions.{on_progress, and_then, goes_on, halt, change, show, attempt, or_halt, work_action}
+use Rattle.ptb_command.specs.Actions.{Halt, Faults, Ends, Progress, Goes, Halts, Action, on_progress, and_then, goes_on}
+use Rattle.ptb_command.specs.Actions.{halt, change, show, evaluation, or_halt, work_action}
 use Rattle.ptb_command.specs.Act.{newline, without_line, fails, is_full, proceed_to, if_not_full, action_of}
 use Rattle.ptb_command.specs.Act.{goto_action, with_call, gosub_action, return_action, without_loop}
 use Rattle.ptb_command.specs.Act.{with_loop, for_action, loops_from, is_past, loop_end, loop_turn}
@@ -76,8 +76,8 @@ worked_out_state f S (Done x rest) = refl
 worked_out_state f S (Asks n w) = refl
 worked_out_state f S (Out n w) = refl
 
-pub attempt_state : {A : Type 0} (m : Cells → Work A) (S : State) (a : Answers) → action_state (attempt m S a) ≡ S
-attempt_state m S a = worked_out_state (λ r. r) S (m S.cells a)
+pub evaluation_state : {A : Type 0} (m : Cells → Work A) (S : State) (a : Answers) → action_state (evaluation m S a) ≡ S
+evaluation_state m S a = worked_out_state (λ r. r) S (m S.cells a)
 
 -- ---- parts
 
@@ -88,8 +88,8 @@ module _ (R : State → State → Type 0) (joined : (S T U : State) → R S T �
       → Preserves R (and_then m next)
   and_keeps m next = then_keeps R joined m next
 
-  attempt_keeps : {A : Type 0} (m : Cells → Work A) → Preserves R (attempt m)
-  attempt_keeps m = record { at = λ S a. subst (λ T. R S T) (sym (attempt_state m S a)) (itself S) }
+  evaluation_keeps : {A : Type 0} (m : Cells → Work A) → Preserves R (evaluation m)
+  evaluation_keeps m = record { at = λ S a. subst (λ T. R S T) (sym (evaluation_state m S a)) (itself S) }
 
   goes_keeps : {A : Type 0} (x : A) → Preserves R (goes_on x)
   goes_keeps x = record { at = λ S a. itself S }
@@ -102,7 +102,7 @@ module _ (R : State → State → Type 0) (joined : (S T U : State) → R S T �
   or_halt_keeps (Err f) = halt_keeps (Faults f)
 
   worked_keeps : {A : Type 0} (m : Cells → Work A) → Preserves R (work_action m)
-  worked_keeps m = and_keeps (attempt m) or_halt (attempt_keeps m) or_halt_keeps
+  worked_keeps m = and_keeps (evaluation m) or_halt (evaluation_keeps m) or_halt_keeps
 
   pub ask_keeps : (said : List ℕ) (x : Tree) (prompt : List ℕ) → Preserves R (ask_for said x prompt)
   ask_keeps said x prompt =
@@ -154,8 +154,8 @@ then_part : {A B : Type 0} (m : Action A) (next : A → Action B) → Preserves 
     → ((x : A) → Preserves PartChange (next x)) → Preserves PartChange (and_then m next)
 then_part m next = then_keeps PartChange part_joined m next
 
-attempt_part : {A : Type 0} (m : Cells → Work A) → Preserves PartChange (attempt m)
-attempt_part m = record { at = λ S a. subst (λ T. PartChange S T) (sym (attempt_state m S a)) (part_itself S) }
+evaluation_part : {A : Type 0} (m : Cells → Work A) → Preserves PartChange (evaluation m)
+evaluation_part m = record { at = λ S a. subst (λ T. PartChange S T) (sym (evaluation_state m S a)) (part_itself S) }
 
 show_part : (s : List ℕ) → Preserves PartChange (show s)
 show_part s =
@@ -206,7 +206,7 @@ input_part said x prompt [] = then_part (ask_for said x prompt) _ (ask_part said
 input_part said x prompt (l ∷ ls) =
     then_part (ask_for said x prompt) _ (ask_part said x prompt) (λ at.
     then_part (take_line l ls) _ (take_part l ls) (λ _.
-    then_part (attempt (line_value l)) _ (attempt_part (line_value l))
+    then_part (evaluation (line_value l)) _ (evaluation_part (line_value l))
     (λ r. again_part at (input_action said x prompt ls) r (input_part said x prompt ls))))
 
 -- the lines are those of the state, whatever they are
@@ -265,8 +265,8 @@ input_takes said x prompt (l ∷ ls) S a e =
     then_takes _ (l ∷ ls) (ask_for said x prompt S a) ((ask_lines said x prompt).at S a ∙ e) (λ at T rest k.
     let U : State = record T { lines = ls; shown = T.shown ++ l ++ newline } in
     takes_joined (l ∷ ls) ls _ (l ∷ [], refl)
-    (then_takes (store_or_again at (input_action said x prompt ls)) ls (attempt (line_value l) U rest)
-    (ap (λ (V : State). V.lines) (attempt_state (line_value l) U rest))
+    (then_takes (store_or_again at (input_action said x prompt ls)) ls (evaluation (line_value l) U rest)
+    (ap (λ (V : State). V.lines) (evaluation_state (line_value l) U rest))
     (again_takes ls at (input_action said x prompt ls) (input_takes said x prompt ls))))
 
 take_action_takes : (said : List ℕ) (x : Tree) (prompt : List ℕ)

@@ -29,7 +29,7 @@ use Rattle.ptb_command.specs.declared.stop.CommandStop.TheVariants as stops
 use Rattle.ptb_command.specs.Commands.{Part, Take}
 use Rattle.ptb_command.specs.State.{State}
 use Rattle.ptb_command.specs.Actions.{Ends, Progress, Goes, Halts, Action, on_progress, and_then}
-use Rattle.ptb_command.specs.Actions.{goes_on, halt, show, attempt, or_halt, work_action}
+use Rattle.ptb_command.specs.Actions.{goes_on, halt, show, evaluation, or_halt, work_action}
 use Rattle.ptb_command.specs.Act.{newline, fault_word, target_action, store, take_line, ask_for}
 use Rattle.ptb_command.specs.Act.{store_or_again, answer_instead, without_line, input_action}
 use Rattle.ptb_command.specs.Act.{parts_action}
@@ -47,7 +47,7 @@ use Rattle.ptb_command.proofs.Exchanges.{shows_nothing, with_answers_nil}
 use Rattle.ptb_command.proofs.PartRefinement.{leaves_to, leaves_itself, after_nothing, once_nothing}
 use Rattle.ptb_command.proofs.PartRefinement.{freshens_nothing, refines_part_refl}
 use Rattle.ptb_command.proofs.PartRefinement.{refines_part_then}
-use Rattle.ptb_command.proofs.Stops.{GoesForward, forward_itself, Adds, parts_add, attempt_adds, stops_after}
+use Rattle.ptb_command.proofs.Stops.{GoesForward, forward_itself, Adds, parts_add, evaluation_adds, stops_after}
 use Rattle.ptb_command.proofs.Stops.{stops_under}
 use Rattle.ptb_command.proofs.Actions.{goes_adds, show_adds, then_adds, work_action_adds, refines_part_on}
 use Rattle.ptb_command.proofs.Assignments.{store_adds}
@@ -58,7 +58,7 @@ use Rattle.ptb_command.proofs.WorkedParts.{has_result, has_paused, has_value, ha
 -- ---- a line is worth a value, or has a fault
 
 abbrev pub line_value : List ℕ → Action (Result ℤ Fault)
-line_value l = attempt (λ c. value c (item_of (expression l 0)))
+line_value l = evaluation (λ c. value c (item_of (expression l 0)))
 
 module _ (refused : Pause → ℤ → Type 0) (l : List ℕ) (c e : Choices) (d : Devices) (fresh : Bool) (pending : List ℕ)
     (cells : Cells) where
@@ -93,7 +93,7 @@ module _ (refused : Pause → ℤ → Type 0) (l : List ℕ) (c e : Choices) (d 
       (subst (λ (x : NoValue). WorkComes refused (value cells (item_of (expression l 0))) c e (Err x)) p h))
 
 line_adds : (l : List ℕ) → Adds (line_value l)
-line_adds l = attempt_adds (λ c. value c (item_of (expression l 0)))
+line_adds l = evaluation_adds (λ c. value c (item_of (expression l 0)))
 
 -- ---- lines are left as they are
 

@@ -16,14 +16,14 @@ use Rattle.ptb_command.specs.declared.stop.CommandStop.{CommandStop}
 use Rattle.ptb_command.specs.declared.stop.CommandStop.TheVariants as stops
 use Rattle.ptb_command.specs.State.{State}
 use Rattle.ptb_command.specs.Commands.{Part}
-use Rattle.ptb_command.specs.Actions.{Ends, Progress, Goes, Halts, Action, on_progress, and_then, attempt, or_halt}
+use Rattle.ptb_command.specs.Actions.{Ends, Progress, Goes, Halts, Action, on_progress, and_then, evaluation, or_halt}
 use Rattle.ptb_command.specs.Act.{parts_action}
 use Rattle.ptb_command.specs.Effects.{action_state, Begins, TakesLines}
 use Rattle.ptb_command.specs.Devices.{Devices, with_screen, Refusal, Unanswered, NoLine}
 use Rattle.ptb_command.specs.Traces.{Trace, with_pending, still_pending, RefinesPart}
 use Rattle.ptb_command.specs.Stops.{AsksNext, DeviceFails, Continues, LacksLine, WantsLine, Stops, RefinesPartTo, Comes}
 use Rattle.ptb_command.proofs.Effects.{Preserves, begins_itself, begins_joined, takes_itself}
-use Rattle.ptb_command.proofs.Effects.{takes_joined, attempt_state, parts_part, parts_take}
+use Rattle.ptb_command.proofs.Effects.{takes_joined, evaluation_state, parts_part, parts_take}
 use Rattle.ptb_command.proofs.Exchanges.{has_broken_from}
 use Rattle.ptb_command.proofs.PartRefinement.{refines_part_then, refines_part_under}
 
@@ -54,8 +54,8 @@ parts_add parts w operands = record {
 }
 
 -- working something out changes nothing
-pub attempt_adds : {A : Type 0} (f : Cells → Work A) → Adds (attempt f)
-attempt_adds f = record { at = λ S a. subst (GoesForward S) (sym (attempt_state f S a)) (forward_itself S) }
+pub evaluation_adds : {A : Type 0} (f : Cells → Work A) → Adds (evaluation f)
+evaluation_adds f = record { at = λ S a. subst (GoesForward S) (sym (evaluation_state f S a)) (forward_itself S) }
 
 -- a fault halts, and shows nothing
 pub or_halt_adds : {A : Type 0} (r : Result A Fault) → Adds (or_halt r)

@@ -30,7 +30,7 @@ use Rattle.ptb_command.specs.Commands.{letter_of}
 use Rattle.ptb_command.specs.State.{Place, Loop, Call, State, nesting, nesting_limit}
 use Rattle.ptb_command.specs.State.{place_after, next_index, text_of, statement}
 use Rattle.ptb_command.specs.Actions.{Faults, Ends, Progress, Goes, Halts, Action, and_then}
-use Rattle.ptb_command.specs.Actions.{goes_on, halt, change, show, attempt, work_action}
+use Rattle.ptb_command.specs.Actions.{goes_on, halt, change, show, evaluation, work_action}
 
 -- ---- values
 
@@ -103,7 +103,8 @@ input_action said x prompt [] = and_then (ask_for said x prompt) (λ at S. witho
 input_action said x prompt (l ∷ ls) =
     and_then (ask_for said x prompt) (λ at.
     and_then (take_line l ls) (λ _.
-    and_then (attempt (λ c. value c (item_of (expression l 0)))) (store_or_again at (input_action said x prompt ls))))
+    and_then (evaluation (λ c. value c (item_of (expression l 0))))
+        (store_or_again at (input_action said x prompt ls))))
 
 -- over the lines that the state has left
 abbrev pub item_action : List ℕ → Tree → List ℕ → Action (Unit {0})

@@ -4,7 +4,7 @@
 --                               state, or halts
 --     and_then m next           one after the other
 --     goes_on x, halt h         nothing is done; the command stops
---     attempt m, work_action m  something is evaluated; its fault is a result, or halts
+--     evaluation m, work_action m  something is evaluated; its fault is a result, or halts
 use Rattle.std.specs.Prelude.{ℕ, List, ◌++◌, Result, Ok, Err}
 use Rattle.ptb_expr.specs.declared.fault.Fault.{Fault}
 use Rattle.ptb_answers.specs.Outcome.{Answers, Outcome, Done, go_on, map_outcome}
@@ -51,8 +51,8 @@ abbrev pub show : List ℕ → Action (Unit {0})
 show s = change (λ S. record S { shown = S.shown ++ s })
 
 -- something is evaluated with the cells of the state; a fault is a result
-abbrev pub attempt : {A : Type 0} → (Cells → Work A) → Action (Result A Fault)
-attempt m S a = map_outcome (λ r. Goes r S) (λ _. S) (m S.cells a)
+abbrev pub evaluation : {A : Type 0} → (Cells → Work A) → Action (Result A Fault)
+evaluation m S a = map_outcome (λ r. Goes r S) (λ _. S) (m S.cells a)
 
 abbrev pub or_halt : {A : Type 0} → Result A Fault → Action A
 or_halt (Ok v) = goes_on v
@@ -60,4 +60,4 @@ or_halt (Err f) = halt (Faults f)
 
 -- a fault halts
 abbrev pub work_action : {A : Type 0} → (Cells → Work A) → Action A
-work_action m = and_then (attempt m) or_halt
+work_action m = and_then (evaluation m) or_halt

@@ -12,7 +12,7 @@ mod ListingLaws
 mod Shares
 mod AskedBounds
 mod RaisedAnswers
-mod Attempt
+mod PlayedPlans
 mod RecorderPlans
 mod RecordedAnswers
 mod GivenAnswers

@@ -21,7 +21,7 @@ use Rattle.ptb_explore.specs.MarkedRuns.{IsMarkedRun, IsMarkedBeginning, is_boun
 use Rattle.ptb_explore.specs.Mismatch.{IsOutOfRange, IsOtherBound, HasMoreItems, IsItemMismatch}
 use Rattle.ptb_explore.specs.Mismatch.{LacksItem, IsRunMismatch, HasPrefix, TakesItems}
 use Rattle.ptb_machine.specs.RunTree.{IsRun}
-use Rattle.ptb_explore.proofs.Attempt.{run_opens}
+use Rattle.ptb_explore.proofs.PlayedPlans.{run_opens}
 use Rattle.ptb_machine.proofs.PublicLemmas.{length-bounds, bounds-append}
 use Rattle.ptb_explore.proofs.Order.{same_is}
 use Rattle.ptb_explore.proofs.StatedBounds.{states_begun}

@@ -20,7 +20,7 @@ use Rattle.ptb_machine.specs.Play.{Finish}
 use Rattle.ptb_explore.specs.PlannedPlays.{Holds, NextIsOutside, PlayEnds}
 use Rattle.ptb_machine.proofs.PublicLemmas.{bounds-append, length-bounds}
 use Rattle.ptb_explore.proofs.Tree.{run_open}
-use Rattle.ptb_explore.proofs.Attempt.{Took, ends_at}
+use Rattle.ptb_explore.proofs.PlayedPlans.{Took, ends_at}
 
 take_twice : {X : Type 0} (m n : ℕ) (xs : List X) → m ≤ n → take m (take n xs) ≡ take m xs
 take_twice zero n xs l = refl

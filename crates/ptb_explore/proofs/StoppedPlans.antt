@@ -19,7 +19,7 @@ use Rattle.ptb_explore.specs.Plans.{PlanEndsWith, IsPosition, PlansNext, stoppin
 use Rattle.ptb_explore.specs.PlannedPlays.{Holds, NextIsOutside, PlayEnds}
 use Rattle.ptb_explore.specs.Recorders.{recorder_choices, given_bounds, recorded}
 use Rattle.ptb_machine.specs.RunTree.{IsRun}
-use Rattle.ptb_explore.proofs.Attempt.{all_ones, out_closes, run_closes}
+use Rattle.ptb_explore.proofs.PlayedPlans.{all_ones, out_closes, run_closes}
 use Rattle.ptb_explore.proofs.RaisedAnswers.{plan_begins}
 use Rattle.ptb_explore.proofs.StoppedPlays.{asking_run, bounds_within, open_within, run_within, whole_run}
 use Rattle.ptb_explore.proofs.Tree.{run_asks}

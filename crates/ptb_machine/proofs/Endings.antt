@@ -19,8 +19,8 @@ use Rattle.ptb_expr.specs.Reading.{item_of, expression}
 use Rattle.ptb_expr.specs.Value.{Work, in_range, random_number, value}
 use Rattle.ptb_command.specs.Commands.{Part, Assign, Say, Width, Show, NewLine, Take, Letter, Operand, Defect, Command}
 use Rattle.ptb_command.specs.State.{State, Place, Loop, Call, first_state, text_of, next_command}
-use Rattle.ptb_command.specs.Actions.{Halt, Faults, Ends, Progress, Goes, Halts, Action}
-use Rattle.ptb_command.specs.Actions.{on_progress, and_then, goes_on, halt, change, show, attempt, or_halt, work_action}
+use Rattle.ptb_command.specs.Actions.{Halt, Faults, Ends, Progress, Goes, Halts, Action, on_progress, and_then, goes_on}
+use Rattle.ptb_command.specs.Actions.{halt, change, show, evaluation, or_halt, work_action}
 use Rattle.ptb_command.specs.Act.{newline, fails, is_full, if_not_full, goto_action, gosub_action, action_of}
 use Rattle.ptb_command.specs.Act.{return_action, without_loop, with_loop, with_call, for_action}
 use Rattle.ptb_command.specs.Act.{loops_from, is_past, loop_end, loop_turn, after_sum, next_action}
@@ -68,8 +68,8 @@ worked_out_ends choose f S e (Done x rest) = e
 worked_out_ends choose f S e (Asks n w) = tt
 worked_out_ends choose f S e (Out n w) = tt
 
-attempt_ends : {A : Type 0} (m : Cells → Work A) → EndsLikeRun (attempt m)
-attempt_ends m = record { at = λ choose S a e. worked_out_ends choose (λ r. r) S e (m S.cells a) }
+evaluation_ends : {A : Type 0} (m : Cells → Work A) → EndsLikeRun (evaluation m)
+evaluation_ends m = record { at = λ choose S a e. worked_out_ends choose (λ r. r) S e (m S.cells a) }
 
 goes_ends : {A : Type 0} (x : A) → EndsLikeRun (goes_on x)
 goes_ends x = record { at = λ choose S a e. e }
@@ -85,7 +85,7 @@ or_halt_ends (Ok v) = goes_ends v
 or_halt_ends (Err f) = halt_ends (Faults f) (λ _. tt)
 
 work_action_ends : {A : Type 0} (m : Cells → Work A) → EndsLikeRun (work_action m)
-work_action_ends m = then_ends (attempt m) or_halt (attempt_ends m) or_halt_ends
+work_action_ends m = then_ends (evaluation m) or_halt (evaluation_ends m) or_halt_ends
 
 -- ---- parts
 
@@ -121,7 +121,7 @@ input_ends said x prompt [] = then_ends (ask_for said x prompt) _ (ask_ends said
 input_ends said x prompt (l ∷ ls) =
     then_ends (ask_for said x prompt) _ (ask_ends said x prompt) (λ at.
     then_ends (take_line l ls) _ (change_ends _ (λ S. refl)) (λ _.
-    then_ends (attempt (line_value l)) _ (attempt_ends (line_value l))
+    then_ends (evaluation (line_value l)) _ (evaluation_ends (line_value l))
     (λ r. again_ends at (input_action said x prompt ls) r (input_ends said x prompt ls))))
 
 take_action_ends : (said : List ℕ) (x : Tree) (prompt : List ℕ)

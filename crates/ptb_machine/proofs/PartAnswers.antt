@@ -25,7 +25,7 @@ use Rattle.ptb_machine.specs.Questions.{part_questions, line_questions}
 use Rattle.ptb_machine.proofs.Budgets.{Budget, wider_budget, with_more, done_budget, then_budget}
 use Rattle.ptb_machine.proofs.SpentAnswers.{left_for, Spends, wider_spends, change_spends}
 use Rattle.ptb_machine.proofs.SpentAnswers.{goes_spends, halt_spends, then_spends, after_spends}
-use Rattle.ptb_machine.proofs.SpentAnswers.{work_action_spends, attempt_then, lines_cost}
+use Rattle.ptb_machine.proofs.SpentAnswers.{work_action_spends, evaluation_then, lines_cost}
 use Rattle.ptb_machine.proofs.SpentAnswers.{lines_cost-cons, later}
 
 or_fault_reader : {A : Type 0} (r : Result A FaultKind) (m : ℕ) → IsReader (or_fault r m) 0
@@ -140,7 +140,7 @@ module _ (values : ValueLaws) where
         wider_budget _ (questions x + (line_questions l + (again + lines_cost again ls))) _ _ _
         (omega (arith, lines_cost-cons again l ls)) (λ y. omega arith)
         (after_ask _ _ S (λ at T.
-        attempt_then (line_value l) (store_or_again at (input_action said x prompt ls)) _ (line_questions l) _
+        evaluation_then (line_value l) (store_or_again at (input_action said x prompt ls)) _ (line_questions l) _
         (left_for (later again)) (values.value_reads T.cells (item_of (expression l 0)))
         (λ r. stored_or_again ls at r _ refl others)))
 

@@ -11,7 +11,7 @@ use Rattle.ptb_expr.specs.Store.{Cells}
 use Rattle.ptb_expr.specs.Value.{Work}
 use Rattle.ptb_command.specs.State.{State}
 use Rattle.ptb_command.specs.Actions.{Halt, Progress, Goes, Halts, Action, on_progress, and_then}
-use Rattle.ptb_command.specs.Actions.{goes_on, halt, change, attempt, or_halt, work_action}
+use Rattle.ptb_command.specs.Actions.{goes_on, halt, change, evaluation, or_halt, work_action}
 use Rattle.ptb_machine.specs.Questions.{line_questions}
 use Rattle.ptb_machine.proofs.Budgets.{Budget, same_budget, wider_budget, with_more, reader_budget}
 use Rattle.ptb_machine.proofs.Budgets.{done_budget, then_budget, map_budget}
@@ -62,10 +62,10 @@ pub after_spends : {A B : Type 0} (cost : State → ℕ) (m : Action A) (next : 
 after_spends cost m next k first each =
     wider_spends cost (and_then m next) (0 + k) k (omega arith) (then_spends cost m next 0 k first each)
 
-pub attempt_spends : {A : Type 0} (cost : State → ℕ) (k : ℕ) (m : Cells → Work A) → ((c : Cells) → IsReader (m c) k)
-    → Spends cost (attempt m) k
+pub evaluation_spends : {A : Type 0} (cost : State → ℕ) (k : ℕ) (m : Cells → Work A) → ((c : Cells) → IsReader (m c) k)
+    → Spends cost (evaluation m) k
 unfolding left_for
-attempt_spends cost k m reads = record {
+evaluation_spends cost k m reads = record {
   at = λ S. map_budget (λ r. Goes r S) (λ _. S) (m S.cells) _ _
       (reader_budget (m S.cells) k (cost S) (reads S.cells));
 }
@@ -77,15 +77,16 @@ or_halt_spends cost (Err f) = halt_spends cost 0 _
 pub work_action_spends : {A : Type 0} (cost : State → ℕ) (k : ℕ) (m : Cells → Work A) → ((c : Cells) → IsReader (m c) k)
     → Spends cost (work_action m) k
 work_action_spends cost k m reads = wider_spends cost (work_action m) (k + 0) k (omega arith)
-    (then_spends cost (attempt m) or_halt k 0 (attempt_spends cost k m reads) (or_halt_spends cost))
+    (then_spends cost (evaluation m) or_halt k 0 (evaluation_spends cost k m reads) (or_halt_spends cost))
 
 -- what is worked out changes nothing, so what comes next begins in the same state
-pub attempt_then : {A B : Type 0} (m : Cells → Work A) (next : Result A Fault → Action B) (S : State) (k j : ℕ)
+pub evaluation_then : {A B : Type 0} (m : Cells → Work A) (next : Result A Fault → Action B) (S : State) (k j : ℕ)
     (left : Progress B → ℕ)
     → IsReader (m S.cells) k → ((r : Result A Fault) → Budget (next r S) j left)
-    → Budget (and_then (attempt m) next S) (k + j) left
-attempt_then m next S k j left reads each =
-    same_budget (and_then (attempt m) next S) (λ a. go_on (map_outcome (λ r. r) (λ _. S) (m S.cells a)) (λ r. next r S))
+    → Budget (and_then (evaluation m) next S) (k + j) left
+evaluation_then m next S k j left reads each =
+    same_budget (and_then (evaluation m) next S) (λ a. go_on (map_outcome (λ r. r) (λ _. S) (m S.cells a))
+        (λ r. next r S))
     (k + j) left (λ a. same (m S.cells a))
     (then_budget _ (λ r. next r S) (k + j) (λ _. j) left
     (map_budget (λ r. r) (λ _. S) (m S.cells) (k + j) (λ _. j) (reader_budget (m S.cells) k j reads)) each)
