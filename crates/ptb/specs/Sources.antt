@@ -2,7 +2,7 @@
 -- Main definition: `MayOpen`.
 --     open_note kind                 the note of a program that can't be opened, by the kind of the error
 --     source_bytes file input s      the bytes of a source, by those of a file and of standard input
---     watched_inner w                the reader whose errors are kept
+--     kept_inner w                   the reader whose errors are kept
 --     MayOpen path opened            what may be opened at a path, or without one
 use Rattle.std.specs.Prelude.{◌≡◌, ℕ, List, Option, Some, None, Result, Ok, Err}
 use Rattle.std.specs.declared.io.ErrorKind.{ErrorKind}
@@ -11,7 +11,7 @@ use Rattle.ptb_serve.specs.declared.note.Note.{Note}
 use Rattle.ptb_serve.specs.declared.note.Note.TheVariants as notes
 use Rattle.ptb.specs.declared.readers.Source.{Source}
 use Rattle.ptb.specs.declared.readers.Source.TheVariants.{File, Input}
-use Rattle.ptb.specs.declared.readers.Watched.{Watched}
+use Rattle.ptb.specs.declared.readers.ErrorKeeping.{ErrorKeeping}
 
 abbrev pub open_note : ErrorKind → Note
 open_note kinds.OutOfMemory = notes.OutOfMemory
@@ -21,8 +21,8 @@ abbrev pub source_bytes : {F I : Type 0} → (F → Option (List ℕ)) → (I �
 source_bytes file input (File f) = file f
 source_bytes file input (Input i) = input i
 
-abbrev pub watched_inner : {T : Type 0} → Watched T → T
-watched_inner w = w.inner
+abbrev pub kept_inner : {T : Type 0} → ErrorKeeping T → T
+kept_inner w = w.inner
 
 pub record IsOpenNote (note : Note) : Type 0 where
   pub kind : ErrorKind

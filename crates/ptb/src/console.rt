@@ -5,10 +5,10 @@ ghost use Rattle.std.specs.Prelude.{◌≡◌};
 ghost use Rattle.std.specs.Result.{result_map_both};
 ghost use Rattle.std.specs.IoError.{error_kind};
 ghost use Rattle.ptb_text.specs.Device.{device_inner};
-ghost use Rattle.ptb.specs.Sources.{MayOpen, open_note, watched_inner};
+ghost use Rattle.ptb.specs.Sources.{MayOpen, open_note, kept_inner};
 
 use crate::progress::{ProgressLine, Progressing, Shown};
-use crate::readers::{Source, Watched};
+use crate::readers::{Source, ErrorKeeping};
 use crate::task::Programs;
 use crate::terminal::{Keyboard, TerminalWriter, Terminals, Typed};
 use ptb_serve::{FlushingWriter, Note};
@@ -57,10 +57,10 @@ pub struct Console<'a, R> {
 }
 
 /// The lines that INPUT reads.
-pub type InputLines<'a, R> = Device<Watched<'a, Keyboard<'a, <R as Input>::Reader>>>;
+pub type InputLines<'a, R> = Device<ErrorKeeping<'a, Keyboard<'a, <R as Input>::Reader>>>;
 
 /// The text of a program.
-pub type ProgramText<'a, R> = Device<Watched<'a, Source<<R as Files>::File, <R as Input>::Reader>>>;
+pub type ProgramText<'a, R> = Device<ErrorKeeping<'a, Source<<R as Files>::File, <R as Input>::Reader>>>;
 
 /// What a request writes to.
 pub type ReplyWriter<'a, R> = Progressing<
@@ -98,7 +98,7 @@ impl<'a, R: Runtime> Console<'a, R> {
     /// The lines of standard input.
     pub fn input(&self) -> InputLines<'a, R> {
         let keyboard = Keyboard::new(self.rt.reader(), self.typed());
-        Device::new(Watched::new(keyboard, &self.events.input_failed))
+        Device::new(ErrorKeeping::new(keyboard, &self.events.input_failed))
     }
 
     /// The files that are programs, and standard input.
@@ -168,14 +168,14 @@ pub struct ProgramFiles<'a, R> {
 impl<'a, R: Runtime> Programs<ProgramText<'a, R>> for ProgramFiles<'a, R> {
     // Nobody knows what is in a file, and whether it can be opened.
     ghost opens = { λ files path opened later. MayOpen path
-        (result_map_both (λ text. watched_inner (device_inner text)) (λ note. note) opened) };
+        (result_map_both (λ text. kept_inner (device_inner text)) (λ note. note) opened) };
 
     fn open(&mut self, path: Option<&str>) -> Result<ProgramText<'a, R>, Note> {
         let source = match path {
             Some(path) => Source::File(opened_file(fs::open(self.rt, path), self.failed)?),
             None => Source::Input(self.rt.reader()),
         };
-        Ok(Device::new(Watched::new(source, self.failed)))
+        Ok(Device::new(ErrorKeeping::new(source, self.failed)))
     }
 }
 

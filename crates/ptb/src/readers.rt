@@ -1,7 +1,7 @@
 // This file has the readers of a program's text and of the input, which keep why a read failed.
 
 ghost use Rattle.std.specs.Prelude.{◌≡◌};
-ghost use Rattle.ptb.specs.Sources.{source_bytes, watched_inner};
+ghost use Rattle.ptb.specs.Sources.{source_bytes, kept_inner};
 
 use ptb_text::ByteSource;
 use std::cell::Cell;
@@ -9,21 +9,21 @@ use std::io;
 
 /// A reader that keeps the error of its last read that failed.
 #[derive(Drop)]
-pub struct Watched<'a, T> {
+pub struct ErrorKeeping<'a, T> {
     inner: T,
     failed: &'a Cell<Option<io::Error>>,
 }
 
-impl<'a, T> Watched<'a, T> {
+impl<'a, T> ErrorKeeping<'a, T> {
     /// A reader of what `inner` gives.
     pub fn new(inner: T, failed: &'a Cell<Option<io::Error>>) -> Self
-        ensures { watched_inner result ≡ inner }
+        ensures { kept_inner result ≡ inner }
     {
-        Watched { inner, failed }
+        ErrorKeeping { inner, failed }
     }
 }
 
-impl<'a, T: io::Read> ByteSource for Watched<'a, T> {
+impl<'a, T: io::Read> ByteSource for ErrorKeeping<'a, T> {
     ghost remaining = { λ w. T.remaining w.inner };
 
     fn read(&mut self, buf: &mut [u8]) -> io::Result<usize> {
