@@ -109,7 +109,7 @@ impl ShortItem {
 
 /// Shows what a request says, finds what it stores in, and shows its prompt. There is room for an answer
 /// then.
-pub(crate) fn ask<C: Chooser, S: Screen, L: LineSource>(
+pub(crate) fn request_line<C: Chooser, S: Screen, L: LineSource>(
     request: &LineRequest<'_>,
     store: &Store,
     io: &mut CommandIo<'_, C, S, L>,

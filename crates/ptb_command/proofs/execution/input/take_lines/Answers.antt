@@ -40,7 +40,7 @@ returns-in_err-target-clause-comes g c =
       was.given,
       (
         gives_same g.L.LineSource.gives c.args.io.now.source.now was.given _ _
-            (ap (λ k. k.now) c.ask.ensures.same.source) was.gives,
+            (ap (λ k. k.now) c.request_line.ensures.same.source) was.gives,
         λ before x prompt is.
             answering_stops c.args.request.now.said.now x prompt (was.refines before x prompt is) _ _ _
             _ _ _ _ c.from_residual.ensures.1 (c.in_err-target.ensures.comes (before ++ was.given) x prompt is),
@@ -60,23 +60,24 @@ module _ (g : given.Over) (c : goal.After-store_answer g) where
   gives-ready =
       let was = c.answers.invariant in
       gives_one_more g.L.LineSource.gives g.met.L.LineSource.gives_more c.args.io.now.source.now
-      c.ask.new.io.source.now c.take_ready.follows.lender-at-none was.given c.in-Some.line.now
+      c.request_line.new.io.source.now c.take_ready.follows.lender-at-none was.given c.in-Some.line.now
       (Ok c.take_ready.result) one_ready (gives_same g.L.LineSource.gives c.args.io.now.source.now was.given _ _
-      (ap (λ k. k.now) c.ask.ensures.same.source) was.gives) c.take_ready.follows.holds-at-none.0
+      (ap (λ k. k.now) c.request_line.ensures.same.source) was.gives) c.take_ready.follows.holds-at-none.0
 
   -- the devices then
   abbrev devices-ready : List (List ℕ) → Devices
-  devices-ready before = devices (g.C.Chooser.choices c.ask.new.io.chooser.now)
-      (screen_state g.S.Screen c.ask.new.io.screen.now) (g.L.LineSource.most c.take_ready.follows.lender-at-none)
-      c.ask.new.io.rules.choose (before ++ ready)
+  devices-ready before = devices (g.C.Chooser.choices c.request_line.new.io.chooser.now)
+      (screen_state g.S.Screen c.request_line.new.io.screen.now)
+      (g.L.LineSource.most c.take_ready.follows.lender-at-none)
+      c.request_line.new.io.rules.choose (before ++ ready)
 
   asked-ready : (before : List (List ℕ)) (x : Tree) (prompt : List ℕ) → IsRequest c.args.request.now x prompt
       → RefinesPart
       (pending_trace g.C.Chooser.choices g.S.Screen g.L.LineSource.most c.args.io.now before c.args.store.now
       c.args.output.now.pending)
       (with_given (before ++ ready) (with_most (g.L.LineSource.most c.take_ready.follows.lender-at-none)
-      (pending_trace g.C.Chooser.choices g.S.Screen g.L.LineSource.most c.ask.new.io
-      (before ++ c.answers.invariant.given) c.answers.store c.ask.new.pending)))
+      (pending_trace g.C.Chooser.choices g.S.Screen g.L.LineSource.most c.request_line.new.io
+      (before ++ c.answers.invariant.given) c.answers.store c.request_line.new.pending)))
       (item_action c.args.request.now.said.now x prompt)
       (line_left c.args.request.now.said.now x prompt c.in_ok-target.target c.in-Some.line.now)
   asked-ready before x prompt is =
@@ -84,7 +85,7 @@ module _ (g : given.Over) (c : goal.After-store_answer g) where
       line_asked c.args.request.now.said.now x prompt (g.L.LineSource.most c.take_ready.follows.lender-at-none)
       c.in_ok-target.target c.in-Some.line.now (before ++ ready) (was.refines before x prompt is)
       (c.in_ok-target.ensures.comes (before ++ was.given) x prompt is)
-      (falls_one g.L.LineSource.gives g.L.LineSource.most g.met.L.LineSource.falls c.ask.new.io.source.now
+      (falls_one g.L.LineSource.gives g.L.LineSource.most g.met.L.LineSource.falls c.request_line.new.io.source.now
       c.take_ready.follows.lender-at-none (Ok c.take_ready.result) c.in-Some.line.now one_ready
       c.take_ready.follows.holds-at-none.0)
       (sym (append_assoc before was.given (c.in-Some.line.now ∷ [])))
@@ -120,10 +121,11 @@ pub answers-preserved-else-branch : goal.answers-preserved-else-branch
 answers-preserved-else-branch g c =
     let stored = (goal.at.answers-preserved-else-branch g c).After-store_answer in
     let was = c.answers.invariant in
-    let kept = missed_same g.L.LineSource.missed _ _ _ (ap (λ k. k.now) c.ask.ensures.same.source) was.missed in
+    let kept = missed_same g.L.LineSource.missed _ _ _ (ap (λ k. k.now) c.request_line.ensures.same.source)
+        was.missed in
     record {
       width = c.store_answer.ensures.width ∙ was.width;
-      same = borrows_lent was.same c.ask.ensures.same
+      same = borrows_lent was.same c.request_line.ensures.same
           (record { chooser = refl; screen = refl; source = refl; rules = refl });
       given = ready g stored;
       gives = gives-ready g stored;
@@ -143,7 +145,7 @@ module _ (g : given.Over) (c : goal.After-flush g) where
       gives_same g.L.LineSource.gives _ _ _ _ (ap (λ k. k.now) c.flush.ensures.same.source)
       (gives_no_more g.L.LineSource.gives g.met.L.LineSource.gives_more _ _ _ _ (Ok c.take_ready.result)
       (ap ready_lines c.in_default.is) (gives_same g.L.LineSource.gives c.args.io.now.source.now was.given _ _
-      (ap (λ k. k.now) c.ask.ensures.same.source) was.gives) c.take_ready.follows.holds-at-none.0)
+      (ap (λ k. k.now) c.request_line.ensures.same.source) was.gives) c.take_ready.follows.holds-at-none.0)
 
 pub returns-in_err-flush-clause-comes : goal.returns-in_err-flush-clause-comes
 returns-in_err-flush-clause-comes g c =
@@ -326,12 +328,13 @@ answers-preserved g c =
     let was = c.answers.invariant in
     let earlier = goal.at.answers-preserved g c in
     let stored = earlier.After-store_answer-in_default in
-    let kept = missed_same g.L.LineSource.missed _ _ _ (ap (λ k. k.now) c.ask.ensures.same.source) was.missed in
+    let kept = missed_same g.L.LineSource.missed _ _ _ (ap (λ k. k.now) c.request_line.ensures.same.source)
+        was.missed in
     let before = missed_same g.L.LineSource.missed c.args.io.now.source.now _ c.flush.new.self.source.now
     (ap (λ k. k.now) c.flush.ensures.same.source) (omega (arith, kept, c.take_ready.follows.holds-at-none.1)) in
     record {
       width = c.store_answer-in_default.ensures.width ∙ was.width;
-      same = borrows_lent (borrows_lent was.same c.ask.ensures.same
+      same = borrows_lent (borrows_lent was.same c.request_line.ensures.same
           (record { chooser = refl; screen = refl; source = refl; rules = refl })) c.flush.ensures.same
           (record { chooser = refl; screen = refl; source = refl; rules = refl });
       given = came g stored;
