@@ -16,7 +16,7 @@ use Rattle.ptb_answers.specs.declared.form.Form.TheVariants.{One, Two}
 use Rattle.ptb_answers.specs.declared.form.Marked.{Marked}
 use Rattle.ptb_answers.specs.AnswerText.{in_form, item_text, more_spelling, spelling}
 use Rattle.ptb_explore.specs.declared.kept_items.KeptItem.{KeptItem}
-use Rattle.ptb_explore.specs.ReportHeaders.{joined_items, begun, marked_of, marked_items, AreEnds, BeginsWith}
+use Rattle.ptb_explore.specs.ReportHeaders.{joined_items, header_prefix, marked_of, marked_items, AreEnds, BeginsWith}
 use Rattle.ptb_explore.specs.ReportText.{report_ending, report_text}
 use Rattle.ptb_machine.specs.EndingWords.{field}
 use Rattle.ptb_explore.proofs.ReportText.{comma_and}
@@ -55,12 +55,12 @@ joined_more (x ∷ xs) m =
     ∙ ap (λ (b : Bool). (item_text x ++ more_spelling xs) ++ ((if b then [] else codes ",") ++ item_text m))
     (sym (ne_eqb (length (x ∷ xs)) 0 (λ e. omega (arith, e))))
 
-pub begun_more : (xs : List Marked) (m : Marked) (k : ℕ) → length xs ≡ k
-    → begun (xs ++ m ∷ []) ≡ begun xs ++ ((if k == 0 then [] else codes ",") ++ item_text m)
-begun_more xs m k is =
+pub header_prefix_more : (xs : List Marked) (m : Marked) (k : ℕ) → length xs ≡ k
+    → header_prefix (xs ++ m ∷ []) ≡ header_prefix xs ++ ((if k == 0 then [] else codes ",") ++ item_text m)
+header_prefix_more xs m k is =
     ap (λ z. codes "RUN " ++ z) (joined_more xs m)
     ∙ sym (append_assoc (codes "RUN ") (joined_items xs) ((if length xs == 0 then [] else codes ",") ++ item_text m))
-    ∙ ap (λ (n : ℕ). begun xs ++ ((if n == 0 then [] else codes ",") ++ item_text m)) is
+    ∙ ap (λ (n : ℕ). header_prefix xs ++ ((if n == 0 then [] else codes ",") ++ item_text m)) is
 
 -- more items
 joined_longer : (xs ys : List Marked) → (rest : List ℕ) × (joined_items (xs ++ ys) ≡ joined_items xs ++ rest)
@@ -71,19 +71,19 @@ joined_longer (x ∷ xs) ys = (
       ∙ sym (append_assoc (item_text x) (more_spelling xs) (more_spelling ys)),
 )
 
-pub begins_with_fewer : (text : List ℕ) (xs ys : List Marked) → BeginsWith text (begun (xs ++ ys))
-    → BeginsWith text (begun xs)
+pub begins_with_fewer : (text : List ℕ) (xs ys : List Marked) → BeginsWith text (header_prefix (xs ++ ys))
+    → BeginsWith text (header_prefix xs)
 begins_with_fewer text xs ys h =
     let l = joined_longer xs ys in
-    let is : begun (xs ++ ys) ≡ begun xs ++ l.0 = ap (λ z. codes "RUN " ++ z) l.1
+    let is : header_prefix (xs ++ ys) ≡ header_prefix xs ++ l.0 = ap (λ z. codes "RUN " ++ z) l.1
     ∙ sym (append_assoc (codes "RUN ") (joined_items xs) l.0) in
-    begins_shorter text (begun xs) l.0 (subst (BeginsWith text) is h)
+    begins_shorter text (header_prefix xs) l.0 (subst (BeginsWith text) is h)
 
-pub begins_with_first : (text : List ℕ) (xs : List Marked) (n : ℕ) → BeginsWith text (begun xs)
-    → BeginsWith text (begun (take n xs))
+pub begins_with_first : (text : List ℕ) (xs : List Marked) (n : ℕ) → BeginsWith text (header_prefix xs)
+    → BeginsWith text (header_prefix (take n xs))
 begins_with_first text xs n h =
     begins_with_fewer text (take n xs) (drop n xs)
-    (subst (λ z. BeginsWith text (begun z)) (sym (take-append-drop n xs)) h)
+    (subst (λ z. BeginsWith text (header_prefix z)) (sym (take-append-drop n xs)) h)
 
 -- an item as a form has it
 in_form_is : (form : Form) (a n : ℤ) → in_form form a n ≡ record { answer = a; bound = (in_form form a n).bound }
@@ -108,7 +108,7 @@ spelling_is [] some = absurd (omega (arith, some))
 spelling_is (m ∷ items) some = refl
 
 pub report_from_begun : (items : List Marked) (word : List ℕ) (steps : ℕ) (shown : List ℕ) → 0 < length items
-    → begun items ++ report_ending word steps shown ≡ report_text items word steps shown
+    → header_prefix items ++ report_ending word steps shown ≡ report_text items word steps shown
 report_from_begun items word steps shown some =
     ap (λ z. (codes "RUN " ++ z) ++ report_ending word steps shown) (spelling_is items some)
     ∙ ending_joined (codes "RUN ") (spelling items) (field word) (field (decimal steps))
@@ -132,7 +132,8 @@ ends_cut kept c h k x within =
     let in_kept : k < length kept = omega (arith, within, l) in
     let same : take (k + 1) (marked_items kept) ≡ take (k + 1) (marked_items (take c kept)) =
     sym (ap (take (k + 1)) (items_cut kept c) ∙ take_take (k + 1) c (marked_items kept) (omega (arith, in_cut))) in
-    ap (λ (z : KeptItem). z.end) (get_or-take c kept k x in_cut) ∙ h k x in_kept ∙ ap (λ z. length (begun z)) same
+    ap (λ (z : KeptItem). z.end) (get_or-take c kept k x in_cut) ∙ h k x in_kept
+        ∙ ap (λ z. length (header_prefix z)) same
 
 items_push : (kept : List KeptItem) (e : KeptItem)
     → marked_items (kept ++ e ∷ []) ≡ marked_items kept ++ marked_of e ∷ []
@@ -144,26 +145,26 @@ length-items_of [] = refl
 length-items_of (x ∷ kept) = ap suc (length-items_of kept)
 
 ends_push : (kept : List KeptItem) (e : KeptItem) → AreEnds kept
-    → e.end ≡ length (begun (marked_items kept ++ marked_of e ∷ [])) → AreEnds (kept ++ e ∷ [])
+    → e.end ≡ length (header_prefix (marked_items kept ++ marked_of e ∷ [])) → AreEnds (kept ++ e ∷ [])
 ends_push kept e h is k x within = at (eq-or-lt_of_le most)
   where
     most : k ≤ length kept
     most = omega (arith, within, length-append kept (e ∷ []))
 
     at : (k ≡ length kept) ⊎ (k < length kept)
-        → (get_or (kept ++ e ∷ []) k x).end ≡ length (begun (take (k + 1) (marked_items (kept ++ e ∷ []))))
+        → (get_or (kept ++ e ∷ []) k x).end ≡ length (header_prefix (take (k + 1) (marked_items (kept ++ e ∷ []))))
     at (inl last) =
         let all : take (k + 1) (marked_items (kept ++ e ∷ [])) ≡ marked_items kept ++ marked_of e ∷ [] =
         take_all (k + 1) (marked_items (kept ++ e ∷ []))
         (omega (arith, last, length-items_of (kept ++ e ∷ []), length-append kept (e ∷ []))) ∙ items_push kept e in
         ap (λ n. (get_or (kept ++ e ∷ []) n x).end) last ∙ ap (λ (z : KeptItem). z.end) (get_or-append_seam kept e [] x)
-        ∙ is ∙ ap (λ z. length (begun z)) (sym all)
+        ∙ is ∙ ap (λ z. length (header_prefix z)) (sym all)
     at (inr before) =
         let same : take (k + 1) (marked_items kept) ≡ take (k + 1) (marked_items (kept ++ e ∷ [])) =
         sym (ap (take (k + 1)) (items_push kept e) ∙ take-append-le (k + 1) (marked_items kept) (marked_of e ∷ [])
         (omega (arith, before, length-items_of kept))) in
         ap (λ (z : KeptItem). z.end) (get_or-append kept (e ∷ []) x k before) ∙ h k x before
-        ∙ ap (λ z. length (begun z)) same
+        ∙ ap (λ z. length (header_prefix z)) same
 
 -- ---- item after item: items are all of them, of which k were added; m is the next
 
@@ -171,11 +172,12 @@ module _ (items : List Marked) (k : ℕ) (m : Marked) (within : k < length items
   added : take (k + 1) items ≡ take k items ++ m ∷ []
   added = take_more items k m within ∙ ap (λ x. take k items ++ x ∷ []) (sym next)
 
-  pub text_added : (text new : List ℕ) → text ≡ begun (take k items)
-      → new ≡ text ++ ((if k == 0 then [] else codes ",") ++ item_text m) → new ≡ begun (take (k + 1) items)
+  pub text_added : (text new : List ℕ) → text ≡ header_prefix (take k items)
+      → new ≡ text ++ ((if k == 0 then [] else codes ",") ++ item_text m) → new ≡ header_prefix (take (k + 1) items)
   text_added text new is grown =
       grown ∙ ap (λ z. z ++ ((if k == 0 then [] else codes ",") ++ item_text m)) is
-      ∙ sym (begun_more (take k items) m k (length-take-le k items (omega (arith, within)))) ∙ ap begun (sym added)
+      ∙ sym (header_prefix_more (take k items) m k (length-take-le k items (omega (arith, within))))
+      ∙ ap header_prefix (sym added)
 
   module _ (kept new : List KeptItem) (e : KeptItem) (grown : new ≡ kept ++ e ∷ []) (same : marked_of e ≡ m)
       (is : marked_items kept ≡ take k items) where
@@ -184,15 +186,16 @@ module _ (items : List Marked) (k : ℕ) (m : Marked) (within : k < length items
         ap marked_items grown ∙ items_push kept e ∙ ap (λ x. x ++ marked_of e ∷ []) is
         ∙ ap (λ x. take k items ++ x ∷ []) same ∙ sym added
 
-    pub ends_kept : AreEnds kept → e.end ≡ length (begun (take (k + 1) items)) → AreEnds new
+    pub ends_kept : AreEnds kept → e.end ≡ length (header_prefix (take (k + 1) items)) → AreEnds new
     ends_kept h end =
         let all : take (k + 1) items ≡ marked_items kept ++ marked_of e ∷ [] =
         added ∙ ap (λ x. take k items ++ x ∷ []) (sym same) ∙ ap (λ x. x ++ marked_of e ∷ []) (sym is) in
-        subst AreEnds (sym grown) (ends_push kept e h (end ∙ ap (λ z. length (begun z)) all))
+        subst AreEnds (sym grown) (ends_push kept e h (end ∙ ap (λ z. length (header_prefix z)) all))
 
 -- a text of the first k items begins with those that are kept
-pub begins_kept : (items : List Marked) (k : ℕ) (text : List ℕ) (kept : List KeptItem) → text ≡ begun (take k items)
-    → marked_items kept ≡ take k items → BeginsWith text (begun (marked_items kept))
+pub begins_kept : (items : List Marked) (k : ℕ) (text : List ℕ) (kept : List KeptItem)
+    → text ≡ header_prefix (take k items)
+    → marked_items kept ≡ take k items → BeginsWith text (header_prefix (marked_items kept))
 begins_kept items k text kept is of =
-    subst (λ z. BeginsWith z (begun (marked_items kept))) (ap begun of ∙ sym is)
-    (take-length (begun (marked_items kept)))
+    subst (λ z. BeginsWith z (header_prefix (marked_items kept))) (ap header_prefix of ∙ sym is)
+    (take-length (header_prefix (marked_items kept)))

@@ -17,7 +17,7 @@ use Rattle.ptb_explore.specs.declared.copies.KeptCopy.{KeptCopy}
 use Rattle.ptb_explore.specs.Copies.{machine_of, steps_of, steps_or_none, IsCopyOf, IsSameCopy}
 use Rattle.ptb_explore.specs.Copies.{KeepsCopy, with_one_free, GoesBackTo, IsCopyAt, KeptFrom}
 use Rattle.ptb_explore.specs.Copies.{AreCopies, Agrees, kept_runs, newest_steps, kept_steps}
-use Rattle.ptb_explore.specs.Copies.{WentBack, last_steps_of, last_steps, AreBeginnings, AreTakenBy}
+use Rattle.ptb_explore.specs.Copies.{WentBack, last_steps_of, last_steps, ArePrefixes, AreTakenBy}
 use Rattle.ptb_explore.specs.Copies.{ArePlaces}
 use Rattle.ptb_machine.specs.RunTree.{begins_with}
 use Rattle.std.proofs.lemmas.Bool.{false_from_ne_true, and_parts, and_from}
@@ -143,7 +143,7 @@ module _ (p : StoredProgram) (input : List (List ℕ)) (rules : Rules) where
 
   -- contracts see beginnings of the answers
   beginnings : (t : Answers) (w : List ℕ) (m n : ℕ) (ks : List KeptCopy) → KeptFrom p input rules t w m n ks
-      → AreBeginnings m t (kept_runs t ks)
+      → ArePrefixes m t (kept_runs t ks)
   beginnings t w m n [] h = tt
   beginnings t w m n (k ∷ ks) h =
       let b = kept_within t w k.taken k.shown ks h.3 in
@@ -151,7 +151,7 @@ module _ (p : StoredProgram) (input : List (List ℕ)) (rules : Rules) where
       (omega (arith, e, h.0), ap (λ i. take i t) (sym e), rw e (beginnings t w k.taken k.shown ks h.3))
 
   pub kept_beginnings : (t : Answers) (w : List ℕ) (ks : List KeptCopy) → AreCopies p input rules t w ks
-      → AreBeginnings 0 t (kept_runs t ks)
+      → ArePrefixes 0 t (kept_runs t ks)
   kept_beginnings t w ks h = beginnings t w 0 0 ks h
 
   -- and the steps of each are those of the command that took its last answer

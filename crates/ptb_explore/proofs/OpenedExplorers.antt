@@ -18,7 +18,7 @@ use Rattle.ptb_explore.specs.declared.mismatch.Mismatch.{Mismatch}
 use Rattle.ptb_explore.specs.declared.mismatch.Mismatch.TheVariants.{OutOfRange, OtherBound}
 use Rattle.ptb_explore.specs.declared.mismatch.Mismatch.TheVariants.{NoQuestion, Missing, NotUnder}
 use Rattle.ptb_explore.specs.declared.runner.Runner.{Runner}
-use Rattle.ptb_explore.specs.Copies.{AreCopies, AreBeginnings, KeptRun, kept_runs}
+use Rattle.ptb_explore.specs.Copies.{AreCopies, ArePrefixes, KeptRun, kept_runs}
 use Rattle.ptb_explore.specs.Explorations.{AreKeptAt, Exploration, IsAdded, IsPlayed, IsSameGame, exploration, game_of}
 use Rattle.ptb_explore.specs.MarkedRuns.{IsMarkedBeginning, IsMarkedRun}
 use Rattle.ptb_explore.specs.Mismatch.{IsItemMismatch}
@@ -183,6 +183,6 @@ gone_view old new same under front list answers kept before n m =
 
 pub gone_kept : (p : StoredProgram) (input : List (List ℕ)) (rules : Rules) (a b : Answers) (w : List ℕ)
     (ks : List KeptCopy)
-    → b ≡ a → AreCopies p input rules a w ks → AreBeginnings 0 a (kept_runs b ks)
+    → b ≡ a → AreCopies p input rules a w ks → ArePrefixes 0 a (kept_runs b ks)
 gone_kept p input rules a b w ks same copies =
-    subst (λ (x : Answers). AreBeginnings 0 a (kept_runs x ks)) (sym same) (kept_beginnings p input rules a w ks copies)
+    subst (λ (x : Answers). ArePrefixes 0 a (kept_runs x ks)) (sym same) (kept_beginnings p input rules a w ks copies)

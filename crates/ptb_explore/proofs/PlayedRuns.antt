@@ -50,16 +50,16 @@ steps_by e a = steps_of_outcome (play_of e a)
 module _ (old new : Exploration) (reads : IsReader (play_of old) (most_of old)) where
   -- it was played, and is no longer left
   found_plays : (r : Report) → FoundNext old r new → Reports (play_of old) r
-      → IsNextRun (play_of old) old.under old.front (answers_in r.asked.items) → PlaysRuns old new
+      → IsNextRun (play_of old) old.prefix old.front (answers_in r.asked.items) → PlaysRuns old new
   found_plays r h reports first =
       let a = answers_in r.asked.items in
       let left : steps_left new
-      ≡ steps_of_runs (steps_by old) (runs_after (play_of old) (most_of old) old.under (At a)) = ap steps_left h.now in
+      ≡ steps_of_runs (steps_by old) (runs_after (play_of old) (most_of old) old.prefix (At a)) = ap steps_left h.now in
       let plays : new.played ≡ played_after old.kept old.played r = ap (λ (x : Exploration). x.played) h.now in
       let run : steps_of_outcome (play_of old a) ≡ r.steps = ap steps_of_outcome reports.outcome in
       let was : steps_left old ≡ steps_of_outcome (play_of old a) + steps_of_runs (steps_by old)
-      (runs_after (play_of old) (most_of old) old.under (At a)) =
-      ap (steps_of_runs (steps_by old)) (left_next (play_of old) (most_of old) reads old.under old.front a first) in
+      (runs_after (play_of old) (most_of old) old.prefix (At a)) =
+      ap (steps_of_runs (steps_by old)) (left_next (play_of old) (most_of old) reads old.prefix old.front a first) in
       omega (arith, left, plays, run, was)
 
   -- none is left
@@ -67,13 +67,13 @@ module _ (old new : Exploration) (reads : IsReader (play_of old) (most_of old)) 
   last_plays h =
       let left : steps_left new ≡ 0 =
       ap steps_left h ∙ ap (steps_of_runs (steps_by old))
-      (left_none (play_of old) (most_of old) reads old.under End (λ b run k. absurd (none_left old.under b k))) in
+      (left_none (play_of old) (most_of old) reads old.prefix End (λ b run k. absurd (none_left old.prefix b k))) in
       let plays : new.played ≡ old.played = ap (λ (x : Exploration). x.played) h in
       omega (arith, left, plays)
 
   next_plays : (o : Option (Bor Report)) → NextLeaves old (Ok o) new
       → IfSome o (λ r. Reports (play_of old) r.now)
-      → IfSome o (λ r. IsNextRun (play_of old) old.under old.front (answers_in r.now.asked.items)) → PlaysRuns old new
+      → IfSome o (λ r. IsNextRun (play_of old) old.prefix old.front (answers_in r.now.asked.items)) → PlaysRuns old new
   next_plays (Some r) h reports first = found_plays r.now h reports first
   next_plays None h reports first = last_plays h
 
@@ -85,17 +85,17 @@ module _ (old new : Exploration) (reads : IsReader (play_of old) (most_of old)) 
   -- by what the search for it promises
   module _ (result : Found) (h : NextLeaves old result new)
       (reports : IfOk result (λ o. IfSome o (λ r. Reports (play_of old) r.now)))
-      (first : IfOk result (λ o. IfSome o (λ r. IsNextRun (play_of old) old.under old.front
+      (first : IfOk result (λ o. IfSome o (λ r. IsNextRun (play_of old) old.prefix old.front
       (answers_in r.now.asked.items)))) where
     pub next_played : (o : Option (Bor Report)) → result ≡ Ok o → PlaysRuns old new
     next_played o e = next_plays o (subst (λ (x : Found). NextLeaves old x new) e h)
         (subst (λ (x : Found). IfOk x (λ o. IfSome o (λ r. Reports (play_of old) r.now))) e reports)
-        (subst (λ (x : Found). IfOk x (λ o. IfSome o (λ r. IsNextRun (play_of old) old.under old.front
+        (subst (λ (x : Found). IfOk x (λ o. IfSome o (λ r. IsNextRun (play_of old) old.prefix old.front
         (answers_in r.now.asked.items)))) e first)
 
   pub next_once : (result : Found) → NextLeaves old result new
       → IfOk result (λ o. IfSome o (λ r. Reports (play_of old) r.now))
-      → IfOk result (λ o. IfSome o (λ r. IsNextRun (play_of old) old.under old.front (answers_in r.now.asked.items)))
+      → IfOk result (λ o. IfSome o (λ r. IsNextRun (play_of old) old.prefix old.front (answers_in r.now.asked.items)))
       → PlaysOneMore old new
   next_once (Ok o) h reports first = plays_once old new (next_plays o h reports first)
   next_once (Err e) h reports first = refused_plays e h

@@ -65,28 +65,29 @@ module _ (form : Form) (first e : Exploration) (same : e ≡ record first {
 
   -- what is played stays the same
   of_first : (f : Front) (old new : Option (List ℕ)) (r : Result Bool DeviceFault)
-      → NextWrites (play_of e) e.under (report form (play_of e)) e.front f old new r
-      → NextWrites (play_of first) first.under (report form (play_of first)) e.front f old new r
+      → NextWrites (play_of e) e.prefix (report form (play_of e)) e.front f old new r
+      → NextWrites (play_of first) first.prefix (report form (play_of first)) e.front f old new r
   of_first f old new r h =
-      subst (λ (x : Exploration). NextWrites (play_of x) x.under (report form (play_of x)) e.front f old new r) same h
+      subst (λ (x : Exploration). NextWrites (play_of x) x.prefix (report form (play_of x)) e.front f old new r) same h
 
   module _ (reads : IsReader (play_of first) (most_of first)) (list : List Answers) (remaining : Option ℕ)
-      (old new : Option (List ℕ)) (n : ℕ) (progress : ListingProgress (play_of first) (most_of first) first.under
+      (old new : Option (List ℕ)) (n : ℕ) (progress : ListingProgress (play_of first) (most_of first) first.prefix
       (report form (play_of first)) list first.front e.front remaining old new n) where
     -- no more are wanted
     pub all_wanted : false ≡ not (option_eq eqb remaining (Some 0))
-        → WritesList (play_of first) first.under (report form (play_of first)) list first.front e.front old new n
+        → WritesList (play_of first) first.prefix (report form (play_of first)) list first.front e.front old new n
     all_wanted h = wanted remaining progress h
       where
         wanted : (o : Option ℕ)
-            → ListingProgress (play_of first) (most_of first) first.under (report form (play_of first)) list first.front
+            → ListingProgress (play_of first) (most_of first) first.prefix
+            (report form (play_of first)) list first.front
             e.front o old new n
             → false ≡ not (option_eq eqb o (Some 0))
-            → WritesList (play_of first) first.under (report form (play_of first)) list first.front e.front old new n
+            → WritesList (play_of first) first.prefix (report form (play_of first)) list first.front e.front old new n
         wanted None p k =
             let wrong : false ≡ true = k in
             absurd cc
-        wanted (Some zero) p k = progress_whole (play_of first) (most_of first) reads first.under
+        wanted (Some zero) p k = progress_whole (play_of first) (most_of first) reads first.prefix
             (report form (play_of first)) list first.front old e.front new n p
         wanted (Some (suc i)) p k =
             let wrong : false ≡ true = k ∙ ap not (ne_eqb (suc i) 0 (λ none. omega (arith, none))) in
@@ -95,12 +96,12 @@ module _ (form : Form) (first e : Exploration) (same : e ≡ record first {
     module _ (f : Front) (new' : Option (List ℕ)) where
       -- there is no next run
       pub none_next : (b : Bool) → b ≡ false
-          → NextWrites (play_of e) e.under (report form (play_of e)) e.front f new new' (Ok b)
-          → WritesList (play_of first) first.under (report form (play_of first)) list first.front f old new' n
+          → NextWrites (play_of e) e.prefix (report form (play_of e)) e.front f new new' (Ok b)
+          → WritesList (play_of first) first.prefix (report form (play_of first)) list first.front f old new' n
       none_next b is h =
-          let last = of_first f new new' (Ok false) (subst (λ (x : Bool). NextWrites (play_of e) e.under
+          let last = of_first f new new' (Ok false) (subst (λ (x : Bool). NextWrites (play_of e) e.prefix
           (report form (play_of e)) e.front f new new' (Ok x)) is h) in
-          rw (last.1, last.2) (progress_last (play_of first) (most_of first) reads first.under
+          rw (last.1, last.2) (progress_last (play_of first) (most_of first) reads first.prefix
           (report form (play_of first)) list first.front old e.front remaining new n progress last.0)
 
       module _ (wanted : true ≡ not (option_eq eqb remaining (Some 0))) where
@@ -111,36 +112,36 @@ module _ (form : Form) (first e : Exploration) (same : e ≡ record first {
 
         -- there was no memory for it, or a prefix of it was written
         pub next_ends : (x : DeviceFault)
-            → NextWrites (play_of e) e.under (report form (play_of e)) e.front f new new' (Err x)
-            → WritesRuns (play_of first) first.under (report form (play_of first)) list first.front f old new'
+            → NextWrites (play_of e) e.prefix (report form (play_of e)) e.front f new new' (Err x)
+            → WritesRuns (play_of first) first.prefix (report form (play_of first)) list first.front f old new'
             (Err (fault_after x n))
         next_ends next.Memory h =
             let stays = of_first f new new' (Err next.Memory) h in
-            rw (stays.1, stays.2) (progress_some (play_of first) (most_of first) reads first.under
+            rw (stays.1, stays.2) (progress_some (play_of first) (most_of first) reads first.prefix
             (report form (play_of first)) list first.front old e.front remaining new n progress unused stays.0)
         next_ends next.Write h =
             let part = of_first f new new' (Err next.Write) h in
-            rw part.2 (progress_into (play_of first) (most_of first) reads first.under (report form (play_of first))
+            rw part.2 (progress_into (play_of first) (most_of first) reads first.prefix (report form (play_of first))
             list first.front old e.front remaining new new' n part.0 progress unused part.1 part.3)
         next_ends next.Read h = absurd h
         next_ends next.TooLong h = absurd h
 
         -- it was written
         module _ (b : Bool) (is : b ≡ true)
-            (h : NextWrites (play_of e) e.under (report form (play_of e)) e.front f new new' (Ok b)) where
-          one : NextWrites (play_of first) first.under (report form (play_of first)) e.front f new new' (Ok true)
-          one = of_first f new new' (Ok true) (subst (λ (x : Bool). NextWrites (play_of e) e.under
+            (h : NextWrites (play_of e) e.prefix (report form (play_of e)) e.front f new new' (Ok b)) where
+          one : NextWrites (play_of first) first.prefix (report form (play_of first)) e.front f new new' (Ok true)
+          one = of_first f new new' (Ok true) (subst (λ (x : Bool). NextWrites (play_of e) e.prefix
               (report form (play_of e)) e.front f new new' (Ok x)) is h)
 
-          pub one_fewer : length (runs_after (play_of first) (most_of first) first.under f) < length
-              (runs_after (play_of first) (most_of first) first.under e.front)
-          one_fewer = rw one.2 (fewer_left (play_of first) (most_of first) reads first.under e.front one.0 one.1)
+          pub one_fewer : length (runs_after (play_of first) (most_of first) first.prefix f) < length
+              (runs_after (play_of first) (most_of first) first.prefix e.front)
+          one_fewer = rw one.2 (fewer_left (play_of first) (most_of first) reads first.prefix e.front one.0 one.1)
 
           pub one_more : (left : Option ℕ) → left ≡ less_one remaining → (m : ℕ) → m ≡ min (n + 1) (2 ^ 64 - 1)
-              → ListingProgress (play_of first) (most_of first) first.under
+              → ListingProgress (play_of first) (most_of first) first.prefix
               (report form (play_of first)) list first.front f
               left old new' m
           one_more left fewer m count =
-              rw fewer (progress_more (play_of first) (most_of first) reads first.under
+              rw fewer (progress_more (play_of first) (most_of first) reads first.prefix
               (report form (play_of first)) list first.front old e.front f remaining new new' n m one.0 progress
               unused one.1 one.2 one.3 count)

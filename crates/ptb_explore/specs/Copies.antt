@@ -13,7 +13,7 @@
 --     KeptRun                                what contracts see of a copy
 --     kept_runs answers ks                   what contracts see of the copies of a run with these answers
 --     kept_steps answers runs                the steps of the newest that these answers begin with
---     AreBeginnings m answers runs           each took a prefix of the answers, longer than that of the one before
+--     ArePrefixes m answers runs             each took a prefix of the answers, longer than that of the one before
 --                                            it
 --     ArePlaces p input rules runs           the steps of each are those of the command that took its last answer
 --     play_limit                             more commands than one play can add
@@ -146,11 +146,11 @@ newest_steps n answers (k ∷ runs) = newest_steps (if begins_with answers k.ans
 abbrev pub kept_steps : Answers → List KeptRun → ℕ
 kept_steps answers runs = newest_steps 0 answers runs
 
-abbrev pub AreBeginnings : ℕ → Answers → List KeptRun → Type 0
-AreBeginnings m answers [] = Unit {0}
-AreBeginnings m answers (k ∷ runs) =
+abbrev pub ArePrefixes : ℕ → Answers → List KeptRun → Type 0
+ArePrefixes m answers [] = Unit {0}
+ArePrefixes m answers (k ∷ runs) =
     (m < length k.answers) × (k.answers ≡ take (length k.answers) answers)
-    × AreBeginnings (length k.answers) answers runs
+    × ArePrefixes (length k.answers) answers runs
 
 abbrev pub ArePlaces : StoredProgram → List (List ℕ) → Rules → List KeptRun → Type 0
 ArePlaces p input rules runs = AllByRecursion (λ k. AreTakenBy p input rules k.answers k.steps) runs

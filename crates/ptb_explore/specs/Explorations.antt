@@ -40,7 +40,7 @@ use Rattle.ptb_explore.specs.declared.plan.ListingPosition.{ListingPosition}
 use Rattle.ptb_explore.specs.declared.plan.ListingPosition.TheVariants.{AtStart, AtRun, AtEnd}
 use Rattle.ptb_explore.specs.declared.report.Report.{Report}
 use Rattle.ptb_explore.specs.declared.runner.Runner.{Runner}
-use Rattle.ptb_explore.specs.Copies.{KeptRun, Agrees, AreCopies, AreBeginnings, kept_steps, more_played, play_limit}
+use Rattle.ptb_explore.specs.Copies.{KeptRun, Agrees, AreCopies, ArePrefixes, kept_steps, more_played, play_limit}
 use Rattle.ptb_explore.specs.PlannedPlays.{IsRunPrefix}
 use Rattle.ptb_explore.specs.Plans.{IsFresh}
 use Rattle.ptb_explore.specs.Recorders.{recorded, recorder_choices}
@@ -53,20 +53,20 @@ pub record Exploration : Type 0 where
   pub input : List (List ℕ)
   pub rules : Rules
   -- each of its runs begins with these answers
-  pub under : Answers
+  pub prefix : Answers
   pub front : Front
   -- the copies that are kept of the run at which it is, the one with the fewest answers first
   pub kept : List KeptRun
   -- how many commands were played in all
   pub played : ℕ
 
--- it has the runs that begin with `under`, and is at the front
+-- it has the runs that begin with `prefix`, and is at the front
 abbrev pub exploration : StoredProgram → List (List ℕ) → Rules → Answers → Front → List KeptRun → ℕ → Exploration
-exploration p input rules under front kept played = record {
+exploration p input rules prefix front kept played = record {
   program = p;
   input = input;
   rules = rules;
-  under = under;
+  prefix = prefix;
   front = front;
   kept = kept;
   played = played;
@@ -138,7 +138,7 @@ played_after kept played r = more_played played (r.steps - kept_steps (answers_i
 pub record FoundNext (old : Exploration) (r : Report) (new : Exploration) : Type 0 where
   pub now : new ≡ record old
       { front = At (answers_in r.asked.items); kept = new.kept; played = played_after old.kept old.played r }
-  pub kept : AreBeginnings 0 (answers_in r.asked.items) new.kept
+  pub kept : ArePrefixes 0 (answers_in r.asked.items) new.kept
   pub rises : old.played ≤ new.played
 
 -- no copy is kept; the count doesn't fall, and rises by less than one play can add
@@ -163,7 +163,7 @@ AreCopiesAt p input rules AtEnd r ks = ks ≡ []
 
 abbrev pub AreKeptAt : Front → List KeptRun → Type 0
 AreKeptAt Start runs = runs ≡ []
-AreKeptAt (At a) runs = AreBeginnings 0 a runs
+AreKeptAt (At a) runs = ArePrefixes 0 a runs
 AreKeptAt End runs = runs ≡ []
 
 -- ---- how many steps were played
@@ -187,7 +187,7 @@ steps_of_runs steps (a ∷ list) = steps a + steps_of_runs steps list
 
 -- those of the runs that it has left
 abbrev pub steps_left : Exploration → ℕ
-steps_left e = steps_of_runs (λ a. steps_of_outcome (play_of e a)) (runs_after (play_of e) (most_of e) e.under e.front)
+steps_left e = steps_of_runs (λ a. steps_of_outcome (play_of e a)) (runs_after (play_of e) (most_of e) e.prefix e.front)
 
 -- no more were played than the runs have that are no longer left
 abbrev pub PlaysRuns : Exploration → Exploration → Type 0

@@ -1,7 +1,7 @@
 -- This file defines where an explorer is that was opened, and how many commands were played to open it.
 -- Main definition: `first_front`.
 --     first_front after                where it is: before the first run, or at the run of a list
---     IsRunUnder play under list     the list is a run that begins with the answers of another
+--     IsRunWithPrefix play under list  the list is a run that begins with the answers of another
 --     IsRefusedRun play under after m    a run is named, and m says why it is no run that begins so
 --     IsPlayedBefore play under n    so many commands were played before the first run
 --     IsPlayedFor play under after n     and in all, where it went to a run
@@ -21,7 +21,7 @@ first_front None = Start
 first_front (Some list) = At (answers_of list)
 
 module _ (play : Answers → Outcome Finish (List ℕ)) where
-  pub record IsRunUnder (under list : List Marked) : Type 0 where
+  pub record IsRunWithPrefix (under list : List Marked) : Type 0 where
     pub run : IsMarkedRun play list
     pub begins : HasPrefix under list
 

@@ -15,8 +15,8 @@ pub use Rattle.ptb_text.specs.Statements.{StoredProgram}
 pub use Rattle.ptb_text.specs.Streams.{WritesText, writes_of}
 pub use Rattle.ptb_explore.specs.Beginnings.{beginning_line, split_play, stopped, FindsBeginning, IsSameSearch, MovesTo}
 pub use Rattle.ptb_explore.specs.Beginnings.{BeginningLaws, PlaysList, PlaysLists, PlaysOneListMore, Splitting}
-pub use Rattle.ptb_explore.specs.ReportHeaders.{begun, marked_of, marked_items, AreEnds, BeginsWith}
-pub use Rattle.ptb_explore.specs.Copies.{Agrees, AreCopies, PlaysOn, kept_runs, AreBeginnings, more_played, play_limit}
+pub use Rattle.ptb_explore.specs.ReportHeaders.{header_prefix, marked_of, marked_items, AreEnds, BeginsWith}
+pub use Rattle.ptb_explore.specs.Copies.{Agrees, AreCopies, PlaysOn, kept_runs, ArePrefixes, more_played, play_limit}
 pub use Rattle.ptb_explore.specs.Copies.{WentBack, last_steps, ArePlaces}
 pub use Rattle.ptb_explore.specs.Explorations.{AreCopiesAt, HasRunCopies, IsSameGame, NextPlays, game_of, play_of}
 pub use Rattle.ptb_explore.specs.Explorations.{most_of, IsSameListing, exploration, IsAdded, IsPlayed, report_finish}

@@ -64,13 +64,13 @@ impl<'a> Explorer<'a> {
     pub fn next(&mut self) -> Result<Option<&Report>, AllocError>
         ensures report { IfOk result (λ o. IfSome o (λ r. Reports (play_of self.old) r.now)) }
         ensures next { IfOk result (λ o. IfSome o (λ r.
-            IsNextRun (play_of self.old) self.old.under self.old.front
+            IsNextRun (play_of self.old) self.old.prefix self.old.front
             (answers_in r.now.asked.items))) }
         ensures few { IfOk result (λ o. IfSome o (λ r.
             length (answers_in r.now.asked.items) ≤ most_of self.old)) }
         ensures last { IfOk result (λ o. IfNone o
-            (IsLast (play_of self.old) self.old.under self.old.front)) }
-        ensures ended { IsLast (play_of self.old) self.old.under self.old.front
+            (IsLast (play_of self.old) self.old.prefix self.old.front)) }
+        ensures ended { IsLast (play_of self.old) self.old.prefix self.old.front
             → result ≡ Ok None }
         ensures* leaves { sem 𝓛 (NextRests self.entry result) }
     {

@@ -23,7 +23,7 @@ fn write_next<W: Write>(
     ensures rises { explorer.old.played ≤ explorer.new.played }
     ensures played { ¬ IsErrOf result DeviceFault.Memory → PlaysRuns explorer.old explorer.new }
     ensures once { PlaysOneMore explorer.old explorer.new }
-    ensures writes { NextWrites (play_of explorer.old) explorer.old.under
+    ensures writes { NextWrites (play_of explorer.old) explorer.old.prefix
         (report form (play_of explorer.old)) explorer.old.front explorer.new.front
         (W.contents writer.old) (W.contents writer.new) result }
     ensures failed { FailsToWrite result (W.failures writer.old) (W.failures writer.new) }
@@ -72,9 +72,9 @@ pub fn write_all_runs<W: Write>(
     ensures played { ((n : ℕ) → ¬ IsErrOf result (ExploreFault.Memory n))
         → PlaysRuns explorer.old explorer.new }
     ensures once { PlaysOneMore explorer.old explorer.new }
-    ensures writes { WritesRuns (play_of explorer.old) explorer.old.under
+    ensures writes { WritesRuns (play_of explorer.old) explorer.old.prefix
         (report form (play_of explorer.old))
-        (runs_left (play_of explorer.old) (most_of explorer.old) explorer.old.under
+        (runs_left (play_of explorer.old) (most_of explorer.old) explorer.old.prefix
         explorer.old.front first)
         explorer.old.front explorer.new.front
         (W.contents writer.old) (W.contents writer.new) result }

@@ -2,7 +2,7 @@
 
 ghost use Rattle.std.specs.Prelude.{◌≡◌, List, true, [], IfOk, OnOk, IsErrOf};
 ghost use Rattle.ptb_explore.specs.Prelude.{answers_of, unmarked, Answers, bounds_of, play, most_answers, answers_in};
-ghost use Rattle.ptb_explore.specs.Prelude.{bounds_in, AreBeginnings, AreCopies, exploration, game_of, play_of};
+ghost use Rattle.ptb_explore.specs.Prelude.{bounds_in, ArePrefixes, AreCopies, exploration, game_of, play_of};
 ghost use Rattle.ptb_explore.specs.Prelude.{IsAdded, IsPlayed, IsSameGame, TreeLaws, IsMarkedRun, IsMarkedBeginning};
 ghost use Rattle.ptb_explore.specs.Prelude.{IsItemMismatch, IsRunMismatch, At, IsNextRun, IsRun, Start, begins_with};
 
@@ -80,47 +80,48 @@ impl<'a> Runner<'a> {
 impl<'a> Explorer<'a> {
     ghost use Rattle.std.specs.Prelude.{IfSome, option_copied};
     ghost use Rattle.ptb_explore.specs.Explorations.{AreKeptAt};
-    ghost use Rattle.ptb_explore.specs.Openings.{first_front, IsRunUnder, IsRefusedRun, IsPlayedBefore, IsPlayedFor};
+    ghost use Rattle.ptb_explore.specs.Openings.{first_front, IsRunWithPrefix, IsRefusedRun, IsPlayedBefore};
+    ghost use Rattle.ptb_explore.specs.Openings.{IsPlayedFor};
 
-    // An explorer of the runs that begin with the answers of `under`, of all runs where that is empty:
+    // An explorer of the runs that begin with the answers of `prefix`, of all runs where that is empty:
     // before the first of them, or at the run `after`, if one is named. Some of the answers of both
-    // lists may have their bounds. `under` is looked at first; nothing is played for an empty one.
+    // lists may have their bounds. `prefix` is looked at first; nothing is played for an empty one.
     fn open(
         alloc: Global,
         program: &'a Program,
         lines: &'a [Line],
         rules: Rules,
-        under: &[Marked],
+        prefix: &[Marked],
         after: Option<&[Marked]>,
     ) -> Result<Explorer<'a>, OpenFault>
         ensures opened { IfOk result (λ e. e ≡ exploration program.now lines.now rules
-            (answers_of under.now) (first_front (option_copied after.entry)) e.kept e.played) }
+            (answers_of prefix.now) (first_front (option_copied after.entry)) e.kept e.played) }
         ensures beginning { OnOk result
-            (IsMarkedBeginning (play program.now lines.now rules) under.now) }
+            (IsMarkedBeginning (play program.now lines.now rules) prefix.now) }
         ensures run { OnOk result (IfSome (option_copied after.entry)
-            (IsRunUnder (play program.now lines.now rules) under.now)) }
+            (IsRunWithPrefix (play program.now lines.now rules) prefix.now)) }
         ensures kept { IfOk result (λ e. AreKeptAt (first_front (option_copied after.entry)) e.kept) }
-        ensures played { IfOk result (λ e. IsPlayedFor (play program.now lines.now rules) under.now
+        ensures played { IfOk result (λ e. IsPlayedFor (play program.now lines.now rules) prefix.now
             (option_copied after.entry) e.played) }
         ensures no_beginning { (m : Mismatch) → IsErrOf result (OpenFault.NoBeginning m)
-            → IsMarkedBeginning (play program.now lines.now rules) under.now → ⊥ }
+            → IsMarkedBeginning (play program.now lines.now rules) prefix.now → ⊥ }
         ensures not_a_run { (m : Mismatch) → IsErrOf result (OpenFault.NotARun m)
-            → IsMarkedBeginning (play program.now lines.now rules) under.now × IfSome (option_copied after.entry)
-            (λ list. IsRunUnder (play program.now lines.now rules) under.now list → ⊥) }
+            → IsMarkedBeginning (play program.now lines.now rules) prefix.now × IfSome (option_copied after.entry)
+            (λ list. IsRunWithPrefix (play program.now lines.now rules) prefix.now list → ⊥) }
         ensures mismatch { (m : Mismatch) → IsErrOf result (OpenFault.NoBeginning m)
-            → IsItemMismatch (play program.now lines.now rules) under.now m }
+            → IsItemMismatch (play program.now lines.now rules) prefix.now m }
         ensures run_mismatch { (m : Mismatch) → IsErrOf result (OpenFault.NotARun m)
-            → IsRefusedRun (play program.now lines.now rules) under.now (option_copied after.entry) m }
+            → IsRefusedRun (play program.now lines.now rules) prefix.now (option_copied after.entry) m }
 
         // Laws of the definitions.
         ensures laws { TreeLaws (play program.now lines.now rules)
             (most_answers program.now lines.now rules.limit) }
     {
         run_laws();
-        let items = copied_list(alloc, under)?;
+        let items = copied_list(alloc, prefix)?;
         let mut runner = Runner::new(alloc, program, lines, rules)?;
-        if !under.is_empty() {
-            runner.check_beginning(under)?;
+        if !prefix.is_empty() {
+            runner.check_beginning(prefix)?;
         }
         let explorer = Explorer {
             runner,
@@ -211,7 +212,7 @@ impl<'a> Explorer<'a> {
         ensures after { IfOk result (λ e. e ≡ exploration program.now lines.now rules
             [] (At (answers_of list.now)) e.kept e.played) }
         ensures run { OnOk result (IsMarkedRun (play program.now lines.now rules) list.now) }
-        ensures kept { IfOk result (λ e. AreBeginnings 0 (answers_of list.now) e.kept) }
+        ensures kept { IfOk result (λ e. ArePrefixes 0 (answers_of list.now) e.kept) }
         ensures played { IfOk result (λ e.
             IsPlayed (play program.now lines.now rules) (answers_of list.now) e.played) }
         ensures not_a_run { (m : Mismatch) → IsErrOf result (OpenFault.NotARun m)
@@ -245,7 +246,7 @@ impl<'a> Explorer<'a> {
         ensures after { IfOk result (λ e.
             e ≡ exploration program.now lines.now rules [] (At answers.now) e.kept e.played) }
         ensures run { OnOk result (IsRun (play program.now lines.now rules) answers.now) }
-        ensures kept { IfOk result (λ e. AreBeginnings 0 answers.now e.kept) }
+        ensures kept { IfOk result (λ e. ArePrefixes 0 answers.now e.kept) }
         ensures played { IfOk result (λ e.
             IsPlayed (play program.now lines.now rules) answers.now e.played) }
         ensures not_a_run { (m : Mismatch) → IsErrOf result (OpenFault.NotARun m)
@@ -278,19 +279,19 @@ impl<'a> Explorer<'a> {
           played = e.played;
         }) }
         ensures run { OnOk result (IsMarkedRun (play_of self.entry) list.now) }
-        ensures begins { OnOk result (begins_with (answers_of list.now) self.entry.under ≡ true) }
-        ensures kept { IfOk result (λ e. AreBeginnings 0 (answers_of list.now) e.kept) }
+        ensures begins { OnOk result (begins_with (answers_of list.now) self.entry.prefix ≡ true) }
+        ensures kept { IfOk result (λ e. ArePrefixes 0 (answers_of list.now) e.kept) }
         ensures played { IfOk result (λ e.
             IsAdded (play_of self.entry) (answers_of list.now) self.entry.played e.played) }
         ensures not_a_run { (m : Mismatch) → IsErrOf result (OpenFault.NotARun m)
             → IsMarkedRun (play_of self.entry) list.now
-            → begins_with (answers_of list.now) self.entry.under ≡ true → ⊥ }
-        ensures mismatch { (under : List Marked) → answers_of under ≡ self.entry.under
+            → begins_with (answers_of list.now) self.entry.prefix ≡ true → ⊥ }
+        ensures mismatch { (under : List Marked) → answers_of under ≡ self.entry.prefix
             → (m : Mismatch) → IsErrOf result (OpenFault.NotARun m)
             → IsRunMismatch (play_of self.entry) under list.now m }
         ensures kind { (m : Mismatch) → ¬ IsErrOf result (OpenFault.NoBeginning m) }
         ensures memory { IsErrOf result OpenFault.Memory
-            → begins_with (answers_of list.now) self.entry.under ≡ true }
+            → begins_with (answers_of list.now) self.entry.prefix ≡ true }
     {
         run_laws();
         if !items_begin_with(list, &self.prefix) {

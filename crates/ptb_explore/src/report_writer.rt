@@ -2,8 +2,8 @@
 
 ghost use Rattle.std.specs.Prelude.{◌≡◌, ◌==◌, ◌+◌, ◌<◌, ◌≤◌, [], ◌∷◌, ◌++◌, length, take, codes, decimal};
 ghost use Rattle.std.specs.Prelude.{IsTrue, IsFalse, if◌then◌else◌, ℤ, Option, None, Some};
-ghost use Rattle.ptb_explore.specs.Prelude.{signed_decimal, in_form, item_text, WritesText, writes_of};
-ghost use Rattle.ptb_explore.specs.Prelude.{asked_items, field, report_ending, text_of_report, begun, marked_of};
+ghost use Rattle.ptb_explore.specs.Prelude.{signed_decimal, in_form, item_text, WritesText, writes_of, asked_items};
+ghost use Rattle.ptb_explore.specs.Prelude.{field, report_ending, text_of_report, header_prefix, marked_of};
 ghost use Rattle.ptb_explore.specs.Prelude.{marked_items, AreEnds, BeginsWith};
 
 use crate::kept_items::{KeptItem, KeptItems, MOST_ITEMS};
@@ -75,7 +75,7 @@ fn count_same(items: &[KeptItem], form: Form, asked: &[Asked]) -> usize
 #[inline(always)]
 fn end_of(kept: &[KeptItem], count: usize) -> usize
     requires { count ≤ length kept.now }
-    ensures end { AreEnds kept.now → result ≡ length (begun (take count (marked_items kept.now))) }
+    ensures end { AreEnds kept.now → result ≡ length (header_prefix (take count (marked_items kept.now))) }
 {
     if count == 0 {
         START.len()
@@ -87,12 +87,12 @@ fn end_of(kept: &[KeptItem], count: usize) -> usize
 // Cuts the items and their text, so that so many items are left.
 #[inline(always)]
 fn cut(kept: &mut KeptItems, text: &mut Text, count: usize)
-    requires begins { BeginsWith text.old (begun (marked_items kept.old)) }
+    requires begins { BeginsWith text.old (header_prefix (marked_items kept.old)) }
     requires ends { AreEnds kept.old }
     requires within { count ≤ length kept.old }
     ensures items { marked_items kept.new ≡ take count (marked_items kept.old) }
     ensures ends { AreEnds kept.new }
-    ensures text { text.new ≡ begun (take count (marked_items kept.old)) }
+    ensures text { text.new ≡ header_prefix (take count (marked_items kept.old)) }
 {
     let end = end_of(kept.as_slice(), count);
     kept.truncate(count);
@@ -184,11 +184,11 @@ fn add_items(
     requires within { first ≤ length asked.now }
     requires items { marked_items kept.old ≡ take first (asked_items form asked.now) }
     requires ends { AreEnds kept.old }
-    requires text { text.old ≡ begun (take first (asked_items form asked.now)) }
-    ensures begins { BeginsWith text.new (begun (marked_items kept.new)) }
+    requires text { text.old ≡ header_prefix (take first (asked_items form asked.now)) }
+    ensures begins { BeginsWith text.new (header_prefix (marked_items kept.new)) }
     ensures ends { AreEnds kept.new }
     ensures all { IsTrue result
-        → text.new ≡ begun (asked_items form asked.now) }
+        → text.new ≡ header_prefix (asked_items form asked.now) }
 {
     for k in first..asked.len() {
         if text.room() < ITEM_ROOM {
@@ -286,7 +286,7 @@ pub struct ReportWriter {
     kept: KeptItems,
     // The text of the report, or a prefix of it.
     text: Text,
-    ghost begins: { BeginsWith text (begun (marked_items kept)) },
+    ghost begins: { BeginsWith text (header_prefix (marked_items kept)) },
     ghost ends: { AreEnds kept },
 }
 

@@ -442,7 +442,7 @@ module _ {W : Type 0} (contents : W → Option (List ℕ)) (written : W → ℕ)
   begins_input (Some c) on =
       let b = lines_after wanted c x f n given on in
       subst (λ i. TakesSome (contents w) (contents v) (plain p i rules (a i)).0) (sym b.whole)
-      (between b.rest b.none).beginning
+      (between b.rest b.none).prefix
 
   pub stops_input : IsErrOf ended runs.Memory → (known : Option (List ℕ)) → ReadsOn wanted (fresh known x f) given n
       → Appends (contents w) (contents v) [] ⊎ IfSome known

@@ -38,9 +38,9 @@ use Rattle.ptb_machine.specs.PlainRuns.{ShowsRun, ShowsQuestion, lines_taken, Is
 
 -- ---- lists
 
-pub takes_beginning : (old new : Option (List ℕ)) (bytes all : List ℕ) → Appends old new bytes → Begins bytes all
+pub takes_prefix : (old new : Option (List ℕ)) (bytes all : List ℕ) → Appends old new bytes → Begins bytes all
     → TakesSome old new all
-takes_beginning old new bytes all h begins =
+takes_prefix old new bytes all h begins =
     let size : length all ≡ length bytes + length begins.0 = ap length begins.1 ∙ length-append bytes begins.0 in
     let front : take (length bytes) all ≡ bytes = ap (take (length bytes)) begins.1 ∙ take-append_seam bytes begins.0 in
     (length bytes, omega arith, subst (Appends old new) (sym front) h)
@@ -55,14 +55,14 @@ plain_bytes (Out n shown) = refl
 -- ---- a complete run
 
 pub takes_all : (old new : Option (List ℕ)) (bytes : List ℕ) → Appends old new bytes → TakesSome old new bytes
-takes_all old new bytes h = takes_beginning old new bytes bytes h ([], sym (append-nil bytes))
+takes_all old new bytes h = takes_prefix old new bytes bytes h ([], sym (append-nil bytes))
 
 -- what is said of a run with these answers and lines, between two states of its screen
 pub record IsPlainRun (p : StoredProgram) (rules : Rules) (lines : List (List ℕ)) (a : Answers) (refuses : Pause → ℤ
     → Type 0) (old new : ScreenState) (result : Result Ending RunFault) : Type 0 where
   pub same_borrow : new.borrow ≡ old.borrow
   pub ok : IfOk result (ShowsRun (plain p lines rules a) old.shown new.shown)
-  pub beginning : TakesSome old.shown new.shown (plain p lines rules a).0
+  pub prefix : TakesSome old.shown new.shown (plain p lines rules a).0
   pub failed : IsErrOf result runs.Write → HasFailed old.failures new.failures
   pub memory : IsErrOf result runs.Memory
       → Appends old.shown new.shown []
@@ -114,7 +114,7 @@ module _ (p : StoredProgram) (rules : Rules) (a : Answers) (refuses : Pause → 
   is_ok e plays h = record {
     same_borrow = plays.exchanges.shows.same_borrow;
     ok = h;
-    beginning = takes_all old.shown new.shown _ h.bytes;
+    prefix = takes_all old.shown new.shown _ h.bytes;
     failed = λ f. cc;
     memory = λ f. cc;
     unfailed = λ f. plays.exchanges.unfailed;
@@ -175,7 +175,7 @@ module _ (p : StoredProgram) (rules : Rules) (a : Answers) (refuses : Pause → 
       let begins = continues (left_by failures x left h).rest in
       let all : (plain p lines rules a).0 ≡ played_bytes (left (left_by failures x left h).rest) =
       plain_bytes (play p lines rules a) ∙ ap played_bytes (play_is failures x left h) in
-      takes_beginning old.shown new.shown x.bytes _ h.exchanges.shows.shown (begins.0, all ∙ begins.1)
+      takes_prefix old.shown new.shown x.bytes _ h.exchanges.shows.shown (begins.0, all ∙ begins.1)
 
   -- no answer is left, or it was refused memory
   unanswered : IsUnanswered refused p rules lines before later pauses.Ended
@@ -192,7 +192,7 @@ module _ (p : StoredProgram) (rules : Rules) (a : Answers) (refuses : Pause → 
         record {
           same_borrow = h.plays.exchanges.shows.same_borrow;
           ok = tt;
-          beginning = part_shown new.failures h.exchange h.left h.plays h.continues.begins;
+          prefix = part_shown new.failures h.exchange h.left h.plays h.continues.begins;
           failed = λ f. cc;
           memory = λ _. inr (
             (h.bound, r),
@@ -246,7 +246,7 @@ module _ (p : StoredProgram) (rules : Rules) (a : Answers) (refuses : Pause → 
   unwritten h = record {
     same_borrow = h.plays.exchanges.shows.same_borrow;
     ok = tt;
-    beginning = begun h;
+    prefix = begun h;
     failed = λ _. failed_by old new h.device h.is h.broken;
     memory = λ f. cc;
     unfailed = λ f. absurd (f refl);
@@ -258,7 +258,7 @@ module _ (p : StoredProgram) (rules : Rules) (a : Answers) (refuses : Pause → 
   not_read h = record {
     same_borrow = h.plays.exchanges.shows.same_borrow;
     ok = tt;
-    beginning = begun h;
+    prefix = begun h;
     failed = λ f. cc;
     memory = λ f. cc;
     unfailed = λ f. unfailed_by old new h.device h.is h.broken;
@@ -285,7 +285,7 @@ module _ (p : StoredProgram) (rules : Rules) (a : Answers) (refuses : Pause → 
       record {
         same_borrow = ap (λ (d : Devices). d.screen.borrow) e;
         ok = tt;
-        beginning = (0, omega arith, nothing);
+        prefix = (0, omega arith, nothing);
         failed = λ f. cc;
         memory = λ _. inl nothing;
         unfailed = λ _. ap (λ (d : Devices). d.screen.failures) e;
@@ -535,7 +535,7 @@ pub record IsRunBetween {W : Type 0} (contents : W → Option (List ℕ)) (failu
     → ℕ) (p : StoredProgram) (rules : Rules) (ls : List (List ℕ)) (a : Answers) (refuses : Pause → ℤ
     → Type 0) (w v : W) (result : Result Ending RunFault) : Type 0 where
   pub ok : IfOk result (ShowsRun (plain p ls rules a) (contents w) (contents v))
-  pub beginning : TakesSome (contents w) (contents v) (plain p ls rules a).0
+  pub prefix : TakesSome (contents w) (contents v) (plain p ls rules a).0
   pub failed : IsErrOf result runs.Write → HasFailed (failures w) (failures v)
   pub memory : IsErrOf result runs.Memory
       → Appends (contents w) (contents v) []
@@ -557,7 +557,7 @@ run_between contents failures p rules ls a refuses screen screen_after w v resul
     (subst (λ x. IsRunBetween contents failures p rules ls a refuses screen.now x result) (sym (ends same))
     (record {
       ok = h.ok;
-      beginning = h.beginning;
+      prefix = h.prefix;
       failed = h.failed;
       memory = h.memory;
       unfailed = h.unfailed;

@@ -15,7 +15,7 @@ use Rattle.ptb_explore.specs.declared.mismatch.Mismatch.{Mismatch}
 use Rattle.ptb_explore.specs.declared.mismatch.Mismatch.TheVariants.{OutOfRange, OtherBound}
 use Rattle.ptb_explore.specs.declared.mismatch.Mismatch.TheVariants.{NoQuestion, Missing, NotUnder}
 use Rattle.ptb_explore.specs.Mismatch.{IsItemMismatch}
-use Rattle.ptb_explore.specs.Openings.{IsRefusedRun, IsRunUnder}
+use Rattle.ptb_explore.specs.Openings.{IsRefusedRun, IsRunWithPrefix}
 use Rattle.ptb_machine.specs.RunTree.{begins_with}
 use Rattle.ptb_serve.specs.declared.note.Note.{Note}
 use Rattle.ptb_serve.specs.declared.note.Note.TheVariants as notes
@@ -101,14 +101,14 @@ module _ (game : Answers → Outcome Finish (List ℕ)) where
   share_is None b = refl
   share_is (Some under) b = share_true under b
 
-  front_is : (under after : Option (List Marked)) → IfSome after (IsRunUnder game (items_of under))
+  front_is : (under after : Option (List Marked)) → IfSome after (IsRunWithPrefix game (items_of under))
       → is_front game (share_prefix under) after ≡ true
   front_is under None run = refl
   front_is under (Some list) run = front_true (share_prefix under) list run.run
       (subst (λ a. begins_with (answers_of list) a ≡ true) (items_answers under) run.begins)
 
   pub begun_at : (under after : Option (List Marked)) → IsMarkedBeginning game (items_of under)
-      → IfSome after (IsRunUnder game (items_of under)) → front_note game under after ≡ None
+      → IfSome after (IsRunWithPrefix game (items_of under)) → front_note game under after ≡ None
   begun_at under after b run = ap₂ note_of (share_is under b) (front_is under after run)
 
   -- an empty list has no item that does not fit
@@ -130,7 +130,8 @@ module _ (game : Answers → Outcome Finish (List ℕ)) where
   refused_share (Some under) after m none why = (no_share under after none, why)
 
   refused_run : (under after : Option (List Marked)) (m : Mismatch) → IsMarkedBeginning game (items_of under)
-      → IfSome after (λ list. IsRunUnder game (items_of under) list → ⊥) → IsRefusedRun game (items_of under) after m
+      → IfSome after (λ list. IsRunWithPrefix game (items_of under) list → ⊥)
+      → IsRefusedRun game (items_of under) after m
       → IsUnstarted game under after (NotARun m)
   refused_run under None m b none why = absurd why
   refused_run None (Some list) m b none why =
@@ -142,7 +143,7 @@ module _ (game : Answers → Outcome Finish (List ℕ)) where
       → ((m : Mismatch) → IsErrOf r (NoBeginning m) → IsMarkedBeginning game (items_of under) → ⊥)
       → ((m : Mismatch) → IsErrOf r (NoBeginning m) → IsItemMismatch game (items_of under) m)
       → ((m : Mismatch) → IsErrOf r (NotARun m) → IsMarkedBeginning game (items_of under)
-      × IfSome after (λ list. IsRunUnder game (items_of under) list → ⊥))
+      × IfSome after (λ list. IsRunWithPrefix game (items_of under) list → ⊥))
       → ((m : Mismatch) → IsErrOf r (NotARun m) → IsRefusedRun game (items_of under) after m)
       → IfErr r (IsUnstarted game under after)
   unstarted_at under after (Ok x) share misfit run why = tt

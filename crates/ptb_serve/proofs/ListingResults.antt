@@ -119,8 +119,8 @@ module _ (request : Request) (p : StoredProgram) (memory : p.memory ≡ request.
         (begun : front_note (play p input request.rules) under after ≡ None) where
       abbrev Writes : Result ℕ ExploreFault → Type 0
       Writes result =
-          WritesRuns (play_of e) e.under (report form (play_of e))
-          (runs_left (play_of e) (most_of e) e.under e.front first) e.front f out.before out.after result
+          WritesRuns (play_of e) e.prefix (report form (play_of e))
+          (runs_left (play_of e) (most_of e) e.prefix e.front first) e.front f out.before out.after result
 
       -- some reports are written
       pub listing_broken : {T : Type 0} (result : Result ℕ Note) (fault : ExploreFault)

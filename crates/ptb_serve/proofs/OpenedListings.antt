@@ -57,8 +57,8 @@ module _ (p : StoredProgram) (input : List (List ℕ)) (rules : Rules) (under : 
   plays : play_of e ≡ play p input rules
   plays = ap play_of opened
 
-  begins_so : e.under ≡ answers_of (items_of under)
-  begins_so = ap (λ (x : Exploration). x.under) opened
+  begins_so : e.prefix ≡ answers_of (items_of under)
+  begins_so = ap (λ (x : Exploration). x.prefix) opened
 
   -- it has gone to the run of the other list
   pub at_named : (list : List Marked) (r : Result Exploration OpenFault)
@@ -70,7 +70,7 @@ module _ (p : StoredProgram) (input : List (List ℕ)) (rules : Rules) (under : 
   at_named list (Err fault) there = tt
 
   pub begun_named : (list : List Marked) (r : Result Exploration OpenFault) → OnOk r (IsMarkedRun (play_of e) list)
-      → OnOk r (begins_with (answers_of list) e.under ≡ true)
+      → OnOk r (begins_with (answers_of list) e.prefix ≡ true)
       → OnOk r (front_note (play p input rules) under (Some list) ≡ None)
   begun_named list r run so = on_ok_both r (λ is its. begun_at (play p input rules) under (Some list) begins (record {
     run = subst (λ (g : Answers → Outcome Finish (List ℕ)). IsMarkedRun g list) plays is;
@@ -80,8 +80,8 @@ module _ (p : StoredProgram) (input : List (List ℕ)) (rules : Rules) (under : 
   -- or the other list is refused
   pub unstarted_there : (list : List Marked) (r : Result Exploration OpenFault)
       → ((m : Mismatch) → IsErrOf r (NotARun m) → IsMarkedRun (play_of e) list
-      → begins_with (answers_of list) e.under ≡ true → ⊥)
-      → ((u : List Marked) → answers_of u ≡ e.under → (m : Mismatch) → IsErrOf r (NotARun m)
+      → begins_with (answers_of list) e.prefix ≡ true → ⊥)
+      → ((u : List Marked) → answers_of u ≡ e.prefix → (m : Mismatch) → IsErrOf r (NotARun m)
       → IsRunMismatch (play_of e) u list m)
       → ((m : Mismatch) → IsErrOf r (NoBeginning m) → ⊥) → IfErr r (IsUnstarted (play p input rules) under (Some list))
   unstarted_there list r none why kind = unstarted_at (play p input rules) under (Some list) r

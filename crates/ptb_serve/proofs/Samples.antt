@@ -22,7 +22,7 @@ use Rattle.ptb_explore.specs.Samples.{WritesSample}
 use Rattle.ptb_options.specs.declared.request.Mode.{Mode}
 use Rattle.ptb_options.specs.declared.request.Mode.TheVariants as modes
 use Rattle.ptb_options.specs.declared.request.Request.{Request}
-use Rattle.ptb_machine.proofs.PublicLemmas.{takes_beginning}
+use Rattle.ptb_machine.proofs.PublicLemmas.{takes_prefix}
 use Rattle.ptb_machine.specs.Streams.{Writes as Output}
 use Rattle.ptb_serve.specs.declared.note.Note.{Note}
 use Rattle.ptb_serve.specs.declared.note.Note.TheVariants as notes
@@ -48,9 +48,9 @@ module _ (p : StoredProgram) (request : Request) (seed runs : ℕ) (form : Form)
   cut_served : (fault : ExploreFault) → Writes (Err fault)
       → Serves (sample_reply p input request.rules seed runs form) old new (outcome_of (Err (reports_note fault)))
   cut_served (explores.Memory n) w =
-      takes_beginning old new _ _ w.bytes
+      takes_prefix old new _ _ w.bytes
       (text-prefix (report form (play p input request.rules)) due w.prefix w.rest w.split)
-  cut_served (explores.Write n) w = takes_beginning old new _ _ w.bytes (text-into
+  cut_served (explores.Write n) w = takes_prefix old new _ _ w.bytes (text-into
       (report form (play p input request.rules)) due w.prefix w.at w.rest w.part w.remainder w.split w.cut)
 
   fewer_sampled : (fault : ExploreFault) → Writes (Err fault)

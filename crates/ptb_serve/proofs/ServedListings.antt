@@ -44,7 +44,7 @@ use Rattle.ptb_serve.specs.ServedRequests.{outcome_of, device_note, reports_note
 use Rattle.ptb_serve.specs.ServedRequests.{IsCheck, IsInput, ListsFewerOf, NeedsInput, NeedsWholeInput, ReadsForRun}
 use Rattle.ptb_serve.specs.ServedRequests.{Serves, ServesUnread, SilentBy, StopsForMemory}
 use Rattle.ptb_serve.proofs.Fronts.{note_is}
-use Rattle.ptb_machine.proofs.PublicLemmas.{takes_beginning}
+use Rattle.ptb_machine.proofs.PublicLemmas.{takes_prefix}
 use Rattle.ptb_serve.proofs.ServedPrograms.{consumes_nothing, nothing_told}
 use Rattle.ptb_serve.proofs.ServedPrograms.{serves_loaded, takes_nothing, replies_refusal}
 
@@ -66,10 +66,10 @@ module _ (report : Answers → List ℕ) where
       )
 
 -- what comes before something is shorter than both
-pub below_both : (beginning rest list : List Answers) → list ≡ beginning ++ rest → (rest ≡ [] → ⊥)
-    → length beginning < length list
-below_both beginning [] list e some = absurd (some refl)
-below_both beginning (a ∷ rest) list e some = let l = length-append beginning (a ∷ rest) in rw e (omega (arith, l))
+pub below_both : (prefix rest list : List Answers) → list ≡ prefix ++ rest → (rest ≡ [] → ⊥)
+    → length prefix < length list
+below_both prefix [] list e some = absurd (some refl)
+below_both prefix (a ∷ rest) list e some = let l = length-append prefix (a ∷ rest) in rw e (omega (arith, l))
 
 -- ---- the notes
 
@@ -225,7 +225,7 @@ module _ (p : StoredProgram) (rules : Rules) (under after : Option (List Marked)
         → TakesSome old new (reply input).bytes
     takes_due input written h w begins =
         subst (λ r. TakesSome old new r.bytes) (sym (reply-listed input h))
-        (takes_beginning old new written (due input) w begins)
+        (takes_prefix old new written (due input) w begins)
 
     abbrev Writes : List (List ℕ) → Front → Result ℕ ExploreFault → Type 0
     Writes input f result =
@@ -268,8 +268,8 @@ module _ (p : StoredProgram) (rules : Rules) (under after : Option (List Marked)
         (h : front_note (game input) under after ≡ None) where
       abbrev WritesFrom : Exploration → Result ℕ ExploreFault → Type 0
       WritesFrom e result =
-          WritesRuns (play_of e) e.under (report form (play_of e))
-          (runs_left (play_of e) (most_of e) e.under e.front first) e.front f old new result
+          WritesRuns (play_of e) e.prefix (report form (play_of e))
+          (runs_left (play_of e) (most_of e) e.prefix e.front first) e.front f old new result
 
       written_from : (result : Result ℕ ExploreFault) → WritesFrom e result → Writes input f result
       written_from result w = subst (λ x. WritesFrom x result) same w

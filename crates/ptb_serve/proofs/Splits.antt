@@ -25,7 +25,7 @@ use Rattle.ptb_machine.specs.RunTree.{Front, Start, is_left, runs_left, tree}
 use Rattle.ptb_options.specs.declared.request.Mode.{Mode}
 use Rattle.ptb_options.specs.declared.request.Mode.TheVariants as modes
 use Rattle.ptb_options.specs.declared.request.Request.{Request}
-use Rattle.ptb_machine.proofs.PublicLemmas.{takes_beginning}
+use Rattle.ptb_machine.proofs.PublicLemmas.{takes_prefix}
 use Rattle.ptb_machine.specs.Streams.{Writes as Output}
 use Rattle.ptb_serve.specs.declared.note.Note.{Note}
 use Rattle.ptb_serve.specs.declared.note.Note.TheVariants as notes
@@ -79,9 +79,9 @@ module _ (p : StoredProgram) (request : Request) (n : ℕ) (form : Form) (input 
   cut_served : (f : Front) (fault : ExploreFault) → Writes f (Err fault)
       → Serves (shares_reply p input request.rules n form) old new (outcome_of (Err (reports_note fault)))
   cut_served f (explores.Memory k) w =
-      takes_beginning old new _ _ w.bytes (text-prefix line due w.prefix w.rest (sym left_due ∙ w.split))
+      takes_prefix old new _ _ w.bytes (text-prefix line due w.prefix w.rest (sym left_due ∙ w.split))
   cut_served f (explores.Write k) w =
-      takes_beginning old new _ _ w.bytes
+      takes_prefix old new _ _ w.bytes
       (text-into line due w.prefix w.at w.rest w.part w.remainder (sym left_due ∙ w.split) w.cut)
 
   fewer_split : (f : Front) (fault : ExploreFault) → Writes f (Err fault)

@@ -128,9 +128,9 @@ fn write_reports<W: Write>(
     form: Form,
     out: &mut W,
 ) -> Result<u64, ExploreFault>
-    ensures writes { (front : Front) × WritesRuns (play_of explorer.entry) explorer.entry.under
+    ensures writes { (front : Front) × WritesRuns (play_of explorer.entry) explorer.entry.prefix
         (report form (play_of explorer.entry))
-        (runs_left (play_of explorer.entry) (most_of explorer.entry) explorer.entry.under
+        (runs_left (play_of explorer.entry) (most_of explorer.entry) explorer.entry.prefix
         explorer.entry.front first)
         explorer.entry.front front (W.contents out.old) (W.contents out.new) result }
     ensures failed { FailsAfterSome result (W.failures out.old) (W.failures out.new) }

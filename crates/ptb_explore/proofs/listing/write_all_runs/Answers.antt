@@ -55,7 +55,7 @@ returns-in-Ok-false g c = record {
 pub returns-in-Err : goal.returns-in-Err
 returns-in-Err g c =
     let e = c.loop-form.explorer in
-    let kind = next_kind (play_of e) e.under (report c.args.form (play_of e)) e.front c.write_next.new.explorer.front
+    let kind = next_kind (play_of e) e.prefix (report c.args.form (play_of e)) e.front c.write_next.new.explorer.front
     (g.W.Write.contents c.loop-form.writer) (g.W.Write.contents c.write_next.new.writer) c.in-Err.fault
     c.in-Err.ensures.writes in
     rw c.after.ensures (record {

@@ -15,8 +15,8 @@ invariant-loop-form g l =
       rises : l.fn.explorer.played ≤ l.explorer.played;
       played : PlaysRuns l.fn.explorer l.explorer;
       unfailed : g.W.Write.failures l.writer ≡ g.W.Write.failures l.fn.writer;
-      progress : ListingProgress play (most_of l.fn.explorer) l.fn.explorer.under (report l.fn.form play)
-          (runs_left play (most_of l.fn.explorer) l.fn.explorer.under l.fn.explorer.front l.fn.first)
+      progress : ListingProgress play (most_of l.fn.explorer) l.fn.explorer.prefix (report l.fn.form play)
+          (runs_left play (most_of l.fn.explorer) l.fn.explorer.prefix l.fn.explorer.front l.fn.first)
           l.fn.explorer.front l.explorer.front l.remaining
           (g.W.Write.contents l.fn.writer) (g.W.Write.contents l.writer) l.written;
     }
@@ -24,4 +24,4 @@ invariant-loop-form g l =
 -- fewer runs are left after each report
 abbrev pub decreases-loop-form : goal.decreases-loop-form
 decreases-loop-form g l =
-    length (runs_after (play_of l.fn.explorer) (most_of l.fn.explorer) l.fn.explorer.under l.explorer.front)
+    length (runs_after (play_of l.fn.explorer) (most_of l.fn.explorer) l.fn.explorer.prefix l.explorer.front)

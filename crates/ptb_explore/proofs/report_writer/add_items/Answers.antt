@@ -4,7 +4,7 @@ use Rattle.std.proofs.lemmas.List.{length-take-le, take_all}
 use Rattle.ptb_answers.specs.AnswerText.{in_form, item_text}
 use Rattle.std.specs.Prelude.{◌==◌, if◌then◌else◌, codes}
 use Rattle.ptb_answers.specs.declared.form.Marked.{Marked}
-use Rattle.ptb_explore.specs.ReportHeaders.{begun, marked_of}
+use Rattle.ptb_explore.specs.ReportHeaders.{header_prefix, marked_of}
 use Rattle.ptb_explore.specs.ReportText.{asked_items}
 use Rattle.ptb_explore.proofs.HeaderPrefixes.{begins_kept, ends_kept, is_in_form, items_kept, length-items_of}
 use Rattle.ptb_explore.proofs.HeaderPrefixes.{text_added}
@@ -65,5 +65,5 @@ returns-clause-begins c =
 pub returns-clause-all : goal.returns-clause-all
 returns-clause-all c _ =
     let items = asked_items c.args.form c.args.asked.now in
-    c.loop-k.invariant.text ∙ ap begun (take_all c.loop-k.k items
+    c.loop-k.invariant.text ∙ ap header_prefix (take_all c.loop-k.k items
     (omega (arith, c.loop-k-test.false, length-asked_items c.args.form c.args.asked.now)))

@@ -44,7 +44,7 @@ returns c =
           (answers_in e.runner.report.asked.items)) c.args.list.now ran.answers kept (kept_runs
           (answers_in e.runner.report.asked.items) e.runner.copies.kept.items) new.played e.runner.played);
       run = subst (λ (x : Exploration). IsMarkedRun (play_of x) c.args.list.now) c.self.view_is ran.run;
-      begins = subst (λ (x : Exploration). begins_with (answers_of c.args.list.now) x.under ≡ true) c.self.view_is
+      begins = subst (λ (x : Exploration). begins_with (answers_of c.args.list.now) x.prefix ≡ true) c.self.view_is
           (rw c.deref.ensures.value at begins);
       kept = gone_kept e.runner.player e.runner.lines.now e.runner.rules (answers_of c.args.list.now) _ _ _ ran.answers
           ran.copies;
@@ -74,7 +74,7 @@ returns-in_err-check_run-clause-mismatch c = λ under is m fault.
     let begins : begins_with (answers_of c.args.list.now) (answers_of e.prefix.items) ≡ true =
     ap (λ l. begins_with (answers_of c.args.list.now) (answers_of l)) (sym c.deref.ensures.value)
     ∙ sym c.items_begin_with.ensures ∙ c.if-not-items_begin_with.false in
-    subst (λ (x : Exploration). answers_of under ≡ x.under
+    subst (λ (x : Exploration). answers_of under ≡ x.prefix
     → IsRunMismatch (play_of x) under c.args.list.now m) c.self.view_is
     (λ same. alone_is_under (game_of r) (most_answers r.player r.lines.now r.rules.limit)
     (c.run_laws.ensures.reads r.player r.lines.now r.rules) under c.args.list.now m

@@ -69,9 +69,9 @@ returns-in-Err c =
     let e = c.self.inside in
     let old = e.runner in
     let under = answers_of e.prefix.items in
-    let ended : IsLast (play_of c.args.self.now) c.args.self.now.under c.args.self.now.front → IsLast (game_of old)
+    let ended : IsLast (play_of c.args.self.now) c.args.self.now.prefix c.args.self.now.front → IsLast (game_of old)
     (answers_of c.deref.result.now) (front_at e.position (answers_in old.report.asked.items)) =
-    (λ last. rw c.deref.ensures.value (subst (λ (x : Exploration). IsLast (play_of x) x.under x.front)
+    (λ last. rw c.deref.ensures.value (subst (λ (x : Exploration). IsLast (play_of x) x.prefix x.front)
     (sym c.self.view_is) last)) in
     let new = c.report_next-found.new.self in
     let kept : List KeptRun = kept_runs (answers_in new.report.asked.items) c.clear-in-Err.new.self.kept.items in

@@ -38,18 +38,18 @@ returns-in_err-check_beginning-clause-no_beginning c = λ m fault.
     let rules = c.args.rules in
     let made = c.in_ok-runner.ensures in
     mismatch_closes (play p input rules) (most_answers p input rules.limit) (c.run_laws.ensures.reads p input rules)
-    c.args.under.now m (misfit_opened p input rules c.args.under.now c.in_ok-runner.runner made.program made.lines
+    c.args.prefix.now m (misfit_opened p input rules c.args.prefix.now c.in_ok-runner.runner made.program made.lines
     made.rules made.played m (c.in_err-check_beginning.ensures.mismatch m
     (passed_on _ _ _ c.from_residual-in_err-check_beginning.ensures.1 fault)))
 
 -- what its runner is before it goes to a run, if it does
-before : (c : Joined-not-is_empty) → IsBefore c.args.program.now c.args.lines.now c.args.rules c.args.under.now
+before : (c : Joined-not-is_empty) → IsBefore c.args.program.now c.args.lines.now c.args.rules c.args.prefix.now
     c.if-not-is_empty.runner
 before c =
     let p = c.args.program.now in
     let input = c.args.lines.now in
     let rules = c.args.rules in
-    let list = c.args.under.now in
+    let list = c.args.prefix.now in
     let made = c.in_ok-runner.ensures in
     elim c.if-not-is_empty.branch [
       | then-not-is_empty+in_ok-check_beginning w ↦ rw w.runner-is (before_begun p input rules list
@@ -65,7 +65,7 @@ before c =
 pub invariant_of-explorer : goal.invariant_of-explorer
 invariant_of-explorer c =
     let is = before (goal.at.invariant_of-explorer c).Joined-not-is_empty in (
-      before_opens c.args.program.now c.args.lines.now c.args.rules c.args.under.now c.if-not-is_empty.runner is
+      before_opens c.args.program.now c.args.lines.now c.args.rules c.args.prefix.now c.if-not-is_empty.runner is
           c.in_ok-items.items.items c.in_ok-items.ensures,
       is.none,
     )
@@ -73,7 +73,7 @@ invariant_of-explorer c =
 pub invariant_of-explorer-in-Some : goal.invariant_of-explorer-in-Some
 invariant_of-explorer-in-Some c =
     let is = before (goal.at.invariant_of-explorer-in-Some c).Joined-not-is_empty in (
-      before_opens c.args.program.now c.args.lines.now c.args.rules c.args.under.now c.if-not-is_empty.runner is
+      before_opens c.args.program.now c.args.lines.now c.args.rules c.args.prefix.now c.if-not-is_empty.runner is
           c.in_ok-items.items.items c.in_ok-items.ensures,
       is.none,
     )
@@ -97,7 +97,7 @@ pub returns-in-Some-clause-played : goal.returns-in-Some-clause-played
 returns-in-Some-clause-played c =
     let r = c.if-not-is_empty.runner in
     let is = before (goal.at.returns-in-Some-clause-played c).Joined-not-is_empty in
-    let game = before_game c.args.program.now c.args.lines.now c.args.rules c.args.under.now r is in
+    let game = before_game c.args.program.now c.args.lines.now c.args.rules c.args.prefix.now r is in
     let there = answers_of c.in-Some.list.now in
     let added : IfOk c.go_to.result (λ e. IsAdded (game_of r) there r.played e.played) = c.go_to.ensures.played in
     rw c.in-Some.is (IfOk-weaker c.go_to.result _ _ (λ e a. (
@@ -110,7 +110,7 @@ pub returns-in-Some-clause-not_a_run : goal.returns-in-Some-clause-not_a_run
 returns-in-Some-clause-not_a_run c = λ m fault.
     let r = c.if-not-is_empty.runner in
     let is = before (goal.at.returns-in-Some-clause-not_a_run c).Joined-not-is_empty in
-    let game = before_game c.args.program.now c.args.lines.now c.args.rules c.args.under.now r is in
+    let game = before_game c.args.program.now c.args.lines.now c.args.rules c.args.prefix.now r is in
     let list = c.in-Some.list.now in
     let none : IsMarkedRun (game_of r) list
     → begins_with (answers_of list) (answers_of c.in_ok-items.items.items) ≡ true → ⊥ =

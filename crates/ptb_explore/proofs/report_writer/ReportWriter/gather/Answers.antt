@@ -1,6 +1,6 @@
 -- This file answers that the text of a report is its header and what comes after it.
 use Rattle.std.proofs.Common.{arith, ◌∙◌, ◌<◌, ◌++◌, ap, length, refl}
-use Rattle.ptb_explore.specs.ReportHeaders.{begun, marked_items}
+use Rattle.ptb_explore.specs.ReportHeaders.{header_prefix, marked_items}
 use Rattle.ptb_explore.specs.ReportText.{asked_items, report_ending}
 use Rattle.ptb_explore.proofs.HeaderPrefixes.{begins_longer, report_from_begun}
 use Rattle.ptb_explore.proofs.AskedLists.{length-asked_items}
@@ -8,7 +8,7 @@ use Rattle.ptb_explore.proofs.report_writer.ReportWriter.gather.Goals as goal
 
 pub invariant_of-self : goal.invariant_of-self
 invariant_of-self c = record {
-  begins = begins_longer c.add_ending.new.text c.add_items-listed.new.text (begun
+  begins = begins_longer c.add_ending.new.text c.add_items-listed.new.text (header_prefix
       (marked_items c.add_items-listed.new.kept)) c.add_ending.ensures.longer c.add_items-listed.ensures.begins;
   ends = c.add_items-listed.ensures.ends;
 }
