@@ -50,7 +50,7 @@ struct Count<'p, 'l> {
 
 impl<'p, 'l> Count<'p, 'l> {
     // No run is counted yet, and one play is left to be played, from the beginning of the program.
-    fn begin(
+    fn start(
         alloc: Global,
         program: &'p Program,
         lines: &'l [Line],
@@ -65,7 +65,7 @@ impl<'p, 'l> Count<'p, 'l> {
         run_laws();
         let player = Player::new(alloc, program)?;
         let machine = player.machine(alloc)?;
-        let work = Worklist::begin(alloc, &player)?;
+        let work = Worklist::start(alloc, &player)?;
         let devices = PlayDevices {
             screen: TextScreen::new(alloc),
             source: Lines::new(lines),
@@ -156,6 +156,6 @@ pub(crate) fn count_runs<W: Watch>(
         (tree (play program.now lines.now rules)
         (most_answers program.now lines.now rules.limit))) }
 {
-    let mut counting = Count::begin(alloc, program, lines, rules)?;
+    let mut counting = Count::start(alloc, program, lines, rules)?;
     counting.finish(alloc, watch)
 }

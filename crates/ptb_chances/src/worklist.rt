@@ -169,7 +169,7 @@ impl Worklist {
     /// # Errors
     ///
     /// Where a growth was refused memory.
-    pub(crate) fn begin(alloc: Global, player: &Player) -> Result<Worklist, AllocError>
+    pub(crate) fn start(alloc: Global, player: &Player) -> Result<Worklist, AllocError>
         ensures { IfOk result (λ work. (m : Configuration)
             × (waiting_plays work ≡ first_waiting m ∷ []) × IsAtFirst player.now m) }
     {

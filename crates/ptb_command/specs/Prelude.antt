@@ -32,7 +32,7 @@ pub use Rattle.ptb_command.specs.Stacks.{without, ClosesCall, ClosesNewest}
 pub use Rattle.ptb_command.specs.State.{statement, Place, nesting_limit, first_place, place_after, text_of}
 pub use Rattle.ptb_command.specs.Translation.{AddsSteps, IsMalformedAt, either, IsTranslated, Translates, HasRoom}
 pub use Rattle.ptb_command.specs.Translation.{KeepsRoom, TakesPart, Completes, IsAlone, IsEnd, IsTranslatedAs}
-pub use Rattle.ptb_command.specs.Translation.{TakesOperand, IsBegun, IsStepRead, limit_tree, step_tree}
+pub use Rattle.ptb_command.specs.Translation.{TakesOperand, HasAllRoom, IsStepRead, limit_tree, step_tree}
 pub use Rattle.ptb_command.specs.declared.stack.OpenLoop.{OpenLoop}
 pub use Rattle.ptb_command.specs.declared.operation.Operation.{Operation}
 pub use Rattle.ptb_command.specs.declared.stack.Open.{Open}

@@ -1,7 +1,7 @@
 -- This file defines how cleaned lines are cut from bytes that come one after the other.
 -- A piece that has not begun is None. One that has begun, be it with a byte that is dropped, is what is kept of it.
 -- Main definition: `whole_lines`.
---     begun_piece begun kept       a piece, by whether it has begun
+--     started_piece started kept   a piece, by whether it has started
 --     cleaned_byte b               what the cleaning makes of one byte: that byte, another or nothing
 --     StayUpTo bytes n             the cleaning leaves the first n bytes as they are
 --     with_byte kept b             what is kept after one more byte of a line
@@ -18,9 +18,9 @@ use Rattle.std.specs.Prelude.{◌∷◌, ◌++◌, length, filter, take, Option,
 use Rattle.std.specs.List.{list_all}
 use Rattle.ptb_text.specs.Lines.{tab_as_space, is_printable, line_limit}
 
-abbrev pub begun_piece : Bool → List ℕ → Option (List ℕ)
-begun_piece false kept = None
-begun_piece true kept = Some kept
+abbrev pub started_piece : Bool → List ℕ → Option (List ℕ)
+started_piece false kept = None
+started_piece true kept = Some kept
 
 abbrev pub cleaned_byte : ℕ → List ℕ
 cleaned_byte b = filter is_printable (tab_as_space b ∷ [])

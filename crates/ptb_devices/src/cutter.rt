@@ -21,11 +21,11 @@ pub(crate) struct LineCutter {
 
 impl Model for LineCutter {
     ghost use Rattle.std.specs.Prelude.{◌≡◌, false, List, ℕ, [], Option};
-    ghost use Rattle.ptb_devices.specs.CutLines.{IsClean, begun_piece};
+    ghost use Rattle.ptb_devices.specs.CutLines.{IsClean, started_piece};
 
     ghost Value = { Option (List ℕ) };
 
-    ghost view = { λ c. begun_piece c.has_started c.kept.items };
+    ghost view = { λ c. started_piece c.has_started c.kept.items };
 
     ghost invariant = { λ c. (c.has_started ≡ false → c.kept.items ≡ []) × IsClean c.kept.items };
 }

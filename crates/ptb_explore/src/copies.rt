@@ -167,7 +167,7 @@ impl Copies {
     /// # Errors
     ///
     /// Where there is no memory for it.
-    pub(crate) fn begin(
+    pub(crate) fn start(
         &mut self,
         alloc: Global,
         player: &Player,

@@ -103,7 +103,7 @@ impl<'a> Runner<'a> {
         match self.copies.go_back(self.alloc, common)? {
             None => {
                 screen.cut(0);
-                self.copies.begin(self.alloc, &self.player)
+                self.copies.start(self.alloc, &self.player)
             }
             Some(copy) => {
                 self.chooser.assume_given(copy.taken);

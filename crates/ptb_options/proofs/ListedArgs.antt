@@ -11,11 +11,11 @@ use Rattle.ptb_options.specs.declared.command_line.ArgKind.TheVariants as kinds
 use Rattle.ptb_options.specs.CommandLine.{rule_by}
 
 -- the argument was made by its name, and has its help
-pub record IsBegun (b : Arg) (name : Bor (List ℕ)) : Type 0 where
+pub record IsNamed (b : Arg) (name : Bor (List ℕ)) : Type 0 where
   pub rule : rule_of b ≡ new_rule name.now
   pub local : b.global ≡ false
 
-module _ (b : Arg) (name : Bor (List ℕ)) (kind : ArgKind) (begun : IsBegun b name) where
+module _ (b : Arg) (name : Bor (List ℕ)) (kind : ArgKind) (named : IsNamed b name) where
   pub record IsRule (result : Arg) : Type 0 where
     pub rule : rule_of result ≡ rule_by name.now kind
     pub local : result.global ≡ false
@@ -23,10 +23,10 @@ module _ (b : Arg) (name : Bor (List ℕ)) (kind : ArgKind) (begun : IsBegun b n
   -- it is an option
   module _ (d : Arg) (long : d ≡ record b { long = Some name }) where
     long_rule : rule_of d ≡ record (new_rule name.now) { long = Some name.now }
-    long_rule = ap rule_of long ∙ ap (λ (r : Rule). record r { long = Some name.now }) begun.rule
+    long_rule = ap rule_of long ∙ ap (λ (r : Rule). record r { long = Some name.now }) named.rule
 
     local_d : d.global ≡ false
-    local_d = ap (λ (x : Arg). x.global) long ∙ begun.local
+    local_d = ap (λ (x : Arg). x.global) long ∙ named.local
 
     -- without a value
     pub flag_rule : (e : Arg) → e ≡ record d { action = Some SetTrue } → kind ≡ kinds.Flag → IsRule e
@@ -61,6 +61,6 @@ module _ (b : Arg) (name : Bor (List ℕ)) (kind : ArgKind) (begun : IsBegun b n
   pub operand_rule : (d : Arg) → rule_of d ≡ record (rule_of b) { value_names = 1 } → d.global ≡ b.global
       → kind ≡ kinds.Operand → IsRule d
   operand_rule d valued same is = record {
-    rule = valued ∙ ap (λ (r : Rule). record r { value_names = 1 }) begun.rule ∙ ap (rule_by name.now) (sym is);
-    local = same ∙ begun.local;
+    rule = valued ∙ ap (λ (r : Rule). record r { value_names = 1 }) named.rule ∙ ap (rule_by name.now) (sym is);
+    local = same ∙ named.local;
   }

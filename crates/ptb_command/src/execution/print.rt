@@ -46,7 +46,7 @@ impl Output {
 
     /// Begins again, for another command.
     #[inline(always)]
-    pub(crate) fn begin(&mut self)
+    pub(crate) fn start(&mut self)
         ensures pending { self.new.pending ≡ [] }
         ensures width { self.new.width ≡ first_width }
     {

@@ -17,15 +17,15 @@ returns-in-Ok-false g c =
     let item = c.in-Some.item in
     let taken = c.take_at_hand.ensures c.line_at.result.1.now c.args.context.now.steps.now
     (Input item.prompt item.destination) c.in-Some-new.ensures in
-    c.finish_input.ensures c.args.self.now.store c.args.io.now c.begin.new.self c.begin.ensures.pending
-    c.begin.ensures.width
+    c.finish_input.ensures c.args.self.now.store c.args.io.now c.start.new.self c.start.ensures.pending
+    c.start.ensures.width
     (subst (λ l. IfSome (slice_get l 0) (λ operation. IsPartTaken g.C.Chooser g.S.Screen g.L.LineSource
     c.line_at.result.1.now c.args.context.now.steps.now operation c.args.self.now.store
-    c.take_at_hand.new.store c.args.io.now c.take_at_hand.new.io c.begin.new.self
+    c.take_at_hand.new.store c.args.io.now c.take_at_hand.new.io c.start.new.self
     c.take_at_hand.new.output (Ok false))) (sym c.in-Some.ensures.some.1)
     (subst (λ r. IsPartTaken g.C.Chooser g.S.Screen g.L.LineSource c.line_at.result.1.now
     c.args.context.now.steps.now (Input item.prompt item.destination) c.args.self.now.store c.take_at_hand.new.store
-    c.args.io.now c.take_at_hand.new.io c.begin.new.self c.take_at_hand.new.output r)
+    c.args.io.now c.take_at_hand.new.io c.start.new.self c.take_at_hand.new.output r)
     (c.in-Ok-false.is ∙ ap Ok c.in-Ok-false.field-0-test) taken))
 
 pub returns-in-Err : goal.returns-in-Err
@@ -33,15 +33,15 @@ returns-in-Err g c =
     let item = c.in-Some.item in
     let taken = c.take_at_hand.ensures c.line_at.result.1.now c.args.context.now.steps.now
     (Input item.prompt item.destination) c.in-Some-new.ensures in
-    c.finish_input-in-Err.ensures c.args.self.now.store c.args.io.now c.begin.new.self c.begin.ensures.pending
-    c.begin.ensures.width
+    c.finish_input-in-Err.ensures c.args.self.now.store c.args.io.now c.start.new.self c.start.ensures.pending
+    c.start.ensures.width
     (subst (λ l. IfSome (slice_get l 0) (λ operation. IsPartTaken g.C.Chooser g.S.Screen g.L.LineSource
     c.line_at.result.1.now c.args.context.now.steps.now operation c.args.self.now.store
-    c.take_at_hand.new.store c.args.io.now c.take_at_hand.new.io c.begin.new.self
+    c.take_at_hand.new.store c.args.io.now c.take_at_hand.new.io c.start.new.self
     c.take_at_hand.new.output (Err c.in-Err.stop))) (sym c.in-Some.ensures.some.1)
     (subst (λ r. IsPartTaken g.C.Chooser g.S.Screen g.L.LineSource c.line_at.result.1.now
     c.args.context.now.steps.now (Input item.prompt item.destination) c.args.self.now.store c.take_at_hand.new.store
-    c.args.io.now c.take_at_hand.new.io c.begin.new.self c.take_at_hand.new.output r) c.in-Err.is taken))
+    c.args.io.now c.take_at_hand.new.io c.start.new.self c.take_at_hand.new.output r) c.in-Err.is taken))
 
 -- its value was stored
 
@@ -56,9 +56,9 @@ item_stored g c =
     let item = c.in-Some.item in
     item_taken g.C.Chooser g.S.Screen g.L.LineSource g.met.L.LineSource.gives_none g.met.L.LineSource.gives_more
     g.met.L.LineSource.falls _ item c.in-Some.ensures.some c.args.self.now.store c.take_at_hand.new.store
-    c.args.io.now c.take_at_hand.new.io c.begin.new.self c.take_at_hand.new.output
-    c.take_at_hand.result (c.in-Ok-true.is ∙ ap Ok c.in-Ok-true.field-0-test) c.begin.ensures.pending
-    c.begin.ensures.width (c.take_at_hand.ensures c.line_at.result.1.now c.args.context.now.steps.now
+    c.args.io.now c.take_at_hand.new.io c.start.new.self c.take_at_hand.new.output
+    c.take_at_hand.result (c.in-Ok-true.is ∙ ap Ok c.in-Ok-true.field-0-test) c.start.ensures.pending
+    c.start.ensures.width (c.take_at_hand.ensures c.line_at.result.1.now c.args.context.now.steps.now
     (Input item.prompt item.destination) c.in-Some-new.ensures)
 
 pub returns-in_err-following : goal.returns-in_err-following

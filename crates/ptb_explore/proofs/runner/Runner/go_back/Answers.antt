@@ -32,21 +32,21 @@ returns-in_err-go_back c = record {
 
 pub returns-in-None : goal.returns-in-None
 returns-in-None c =
-    let left = no_copies _ _ _ _ c.in-None.is c.in_ok-go_back.ensures c.begin.new.self.kept.items
-    (ap (λ k. k.items) c.begin.ensures.kept) in
+    let left = no_copies _ _ _ _ c.in-None.is c.in_ok-go_back.ensures c.start.new.self.kept.items
+    (ap (λ k. k.items) c.start.ensures.kept) in
     record {
       same = refl;
       plan = fresh_plan c.args.self.now.chooser c.requires.fresh;
       same_lines = refl;
-      within = on_ok_always c.begin.result (none_taken c.args.source.now c.requires.begins);
-      unspent = c.begin.ensures.unspent;
-      run_prefix = begun_prefix c.begin.result (λ b. b.value) c.args.self.now.player c.args.source.now
+      within = on_ok_always c.start.result (none_taken c.args.source.now c.requires.begins);
+      unspent = c.start.ensures.unspent;
+      run_prefix = begun_prefix c.start.result (λ b. b.value) c.args.self.now.player c.args.source.now
           c.args.self.now.rules c.args.self.now.chooser c.requires.fresh c.requires.begins _ c.cut.ensures
-          c.begin.ensures.first;
-      copies = on_ok_always c.begin.result
+          c.start.ensures.first;
+      copies = on_ok_always c.start.result
           (kept_none c.args.self.now.player c.args.source.now.lines c.args.self.now.rules _ _ _ left.0);
-      back = on_ok_always c.begin.result left.1;
-      steps = begun_steps c.begin.result (λ b. b.value) c.args.self.now.player _ left.0 c.begin.ensures.first;
+      back = on_ok_always c.start.result left.1;
+      steps = begun_steps c.start.result (λ b. b.value) c.args.self.now.player _ left.0 c.start.ensures.first;
     }
 
 -- the run continues from the newest copy that is left

@@ -4,7 +4,7 @@ use Rattle.ptb_devices.specs.Sources.{LineList}
 use Rattle.ptb_machine.specs.Questions.{most_answers}
 use Rattle.ptb_chances.specs.WaitingPlays.{Accounted, first_waiting}
 use Rattle.ptb_chances.proofs.SettledPlays.{accounted_first}
-use Rattle.ptb_chances.proofs.count.Count.begin.Goals as goal
+use Rattle.ptb_chances.proofs.count.Count.start.Goals as goal
 
 pub returns-clause-counted : goal.returns-clause-counted
 returns-clause-counted c =
