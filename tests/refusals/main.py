@@ -77,7 +77,7 @@ def swept(task):
 
 def most_spared(row, kind):
     """How many of a row's runs may be complete although an allocation was refused, or all from one on."""
-    copies = MOST_SPARED_COPIES if "--all" in row.words.split() else 0
+    copies = MOST_SPARED_COPIES if "--all" in row.arguments.split() else 0
     vectors = MOST_SPARED + MOST_SPARED_IN_A_ROW * row.due.output.count(b"CHANCE ")
     return copies + (vectors if kind == "refuse" else 0)
 
@@ -92,14 +92,14 @@ def run(folder, row, how):
     program, struck = os.path.join(folder, "program.bas"), os.path.join(folder, "struck")
     written(program, row.program)
     written(struck, "")
-    words = row.words.split() + ([] if row.input is None else [program])
+    arguments = row.arguments.split() + ([] if row.input is None else [program])
     stdin = row.program if row.input is None else row.input
     how_it_is_run = {
         "input": stdin.encode(),
         "capture_output": True,
         "env": {**os.environ, "LD_PRELOAD": STRIKE, "STRIKE": how, "STRUCK": struck},
     }
-    reply = replied([PTB, *words], SECONDS_OF_A_RUN, **how_it_is_run)
+    reply = replied([PTB, *arguments], SECONDS_OF_A_RUN, **how_it_is_run)
     with open(struck, encoding="ascii") as name:
         return name.read(), reply
 
@@ -137,12 +137,12 @@ def is_program_unread(row, reply):
 
 def is_reported(row):
     """Whether a row writes reports of runs."""
-    return "--all" in row.words or "--sample" in row.words
+    return "--all" in row.arguments or "--sample" in row.arguments
 
 
 def is_added_up(row):
     """Whether a row writes the chances of runs."""
-    return "--chances" in row.words
+    return "--chances" in row.arguments
 
 
 def has_whole_reports(row, reply):
@@ -151,7 +151,7 @@ def has_whole_reports(row, reply):
     """
     if is_added_up(row):
         return not reply.output or reply.output == row.due.output
-    if "--shares" in row.words:
+    if "--shares" in row.arguments:
         return not reply.output or reply.output.endswith(b"\n")
     rest = row.due.output[len(reply.output) :]
     return not is_reported(row) or not rest or rest.startswith(b"RUN ")

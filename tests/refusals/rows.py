@@ -12,14 +12,14 @@ class Row:
     Where the input is None, standard input is the program.
     """
 
-    words: str
+    arguments: str
     program: str
     input: object
     due: object
 
     def __str__(self):
         place = "standard input" if self.input is None else "a file"
-        return f"ptb {self.words} with {self.program!r} from {place}"
+        return f"ptb {self.arguments} with {self.program!r} from {place}"
 
 
 def served(output, status=0):

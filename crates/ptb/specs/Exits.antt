@@ -8,7 +8,7 @@
 --     shown_status kind shown         the status of an error of clap, by whether it was shown
 --     IsRefusedStatus kind n          clap answered an error of this kind
 --     AnswersOptions .. terminals entries n     the request of the options is served, or they ask for none
---     ExitsBy .. terminals words n    so it is with the options of these arguments, or clap finds a fault in them
+--     ExitsBy .. terminals arguments n  so it is with the options of these arguments, or clap finds a fault in them
 --     IsUnreadStatus kind input out n     the arguments can't be read
 use Rattle.std.specs.Prelude.{◌≡◌, ◌≤◌, ◌&&◌, ◌⊎◌, ℕ, Bool, true, false, not, List, [], Option}
 use Rattle.std.specs.Prelude.{Some, None, IfSome, Result, codes, is_some}
@@ -117,6 +117,6 @@ module _ {P R : Type 0} (opens : Option (List ℕ) → Result P Note → Type 0)
       AnswersRequest terminals entries n ⊎ IsUsageStatus input out NoneOpened (options_of entries) n
 
   -- the options of arguments without a fault are answered, and otherwise it is the status of their fault
-  pub record ExitsBy (terminals : Terminals) (words : List Text) (n : ℕ) : Type 0 where
-    pub exits : ((fault_of tool words ≡ []) × AnswersOptions terminals (matches_of tool words) n)
-        ⊎ IsFaultStatus input out NoneOpened (fault_of tool words) n
+  pub record ExitsBy (terminals : Terminals) (arguments : List Text) (n : ℕ) : Type 0 where
+    pub exits : ((fault_of tool arguments ≡ []) × AnswersOptions terminals (matches_of tool arguments) n)
+        ⊎ IsFaultStatus input out NoneOpened (fault_of tool arguments) n

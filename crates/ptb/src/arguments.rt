@@ -6,7 +6,7 @@ ghost use Rattle.ptb.specs.Prelude.{options_of, AnswersOptions, AsksAt, ExitsBy,
 ghost use Rattle.ptb.specs.Prelude.{reads_of, writes_of};
 
 use crate::console::Console;
-use crate::refusals::{refuse, refuse_options, unread_words};
+use crate::refusals::{refuse, refuse_options, refuse_unread};
 use crate::task::{Programs, Task, serve_task};
 use clap::ArgMatches;
 use ptb_options::{Mode, Request, UsageFault, decide, parse, wrong_number};
@@ -28,30 +28,30 @@ pub fn run_arguments<
     W: Write + Watch,
 >(
     console: &Console<'_, R>,
-    words: io::Result<Vec<String>>,
+    arguments: io::Result<Vec<String>>,
     programs: &mut O,
     input: &mut I,
     out: &mut W,
 ) -> u8
-    ensures read { IfOk words (λ w. ExitsBy
+    ensures read { IfOk arguments (λ w. ExitsBy
         (λ path opened. O.opens programs.old path opened programs.new)
         (reads_of P.remaining P.given P.failures)
         (reads_of I.remaining I.given I.failures input.old input.new)
         (writes_of W.contents W.failures out.old out.new) (programs.new ≡ programs.old)
         console.now.terminals (map string_bytes w.items) result) }
-    ensures unread { IfErr words (λ error. IsUnreadStatus
+    ensures unread { IfErr arguments (λ error. IsUnreadStatus
         (reads_of I.remaining I.given I.failures input.old input.new)
         (writes_of W.contents W.failures out.old out.new) (programs.new ≡ programs.old)
         (error_kind error) result) }
 {
-    match words {
-        Ok(words) => run_words(console, words.as_slice(), programs, input, out),
-        Err(error) => unread_words(console, &error),
+    match arguments {
+        Ok(arguments) => run_given(console, arguments.as_slice(), programs, input, out),
+        Err(error) => refuse_unread(console, &error),
     }
 }
 
 // Does what these arguments ask for.
-fn run_words<
+fn run_given<
     'a,
     R: Runtime + AllocGlobal,
     S: AsStr,
@@ -59,16 +59,16 @@ fn run_words<
     O: Programs<P>,
     I: Read,
     W: Write + Watch,
->(console: &Console<'_, R>, words: &'a [S], programs: &mut O, input: &mut I, out: &mut W) -> u8
+>(console: &Console<'_, R>, arguments: &'a [S], programs: &mut O, input: &mut I, out: &mut W) -> u8
     ensures { ExitsBy (λ path opened. O.opens programs.old path opened programs.new)
         (reads_of P.remaining P.given P.failures)
         (reads_of I.remaining I.given I.failures input.old input.new)
         (writes_of W.contents W.failures out.old out.new) (programs.new ≡ programs.old)
-        console.now.terminals (map S.text words.entry.now) result }
+        console.now.terminals (map S.text arguments.entry.now) result }
 {
-    match parse(console.runtime().alloc(), words) {
+    match parse(console.runtime().alloc(), arguments) {
         Ok(matches) => run_matches(console, &matches, programs, input, out),
-        Err(error) => refuse(console, &error, wrong_number(words)),
+        Err(error) => refuse(console, &error, wrong_number(arguments)),
     }
 }
 

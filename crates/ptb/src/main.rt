@@ -42,7 +42,7 @@ fn main(rt: HostRuntime) -> ExitCode {
     let console = Console::new(&rt, terminals, &events);
     ExitCode::from(run_arguments(
         &console,
-        words(&rt),
+        given_arguments(&rt),
         &mut console.programs(),
         &mut console.input(),
         &mut console.output(),
@@ -50,6 +50,6 @@ fn main(rt: HostRuntime) -> ExitCode {
 }
 
 // The arguments of the command line, of which the first is the program's name.
-fn words<R: Runtime + AllocGlobal>(rt: &R) -> io::Result<Vec<String>> {
+fn given_arguments<R: Runtime + AllocGlobal>(rt: &R) -> io::Result<Vec<String>> {
     Ok(env::args(rt)?.collect(rt.alloc())?)
 }

@@ -13,7 +13,7 @@ use std::io;
 use std::rt::Runtime;
 
 /// Says why the arguments can't be read: there is no memory for them, or one is no text.
-pub(crate) fn unread_words<R: Runtime>(console: &Console<'_, R>, error: &io::Error) -> u8
+pub(crate) fn refuse_unread<R: Runtime>(console: &Console<'_, R>, error: &io::Error) -> u8
     ensures { result ≡ unread_status (error_kind error.now) }
 {
     match error.kind() {

@@ -10,7 +10,7 @@ use Rattle.clap.specs.Words.{Rule}
 use Rattle.clap.specs.declared.builder.ValueParser.{ValueParser}
 use Rattle.clap.specs.declared.builder.ValueParser.TheVariants.{Signed, Unsigned}
 use Rattle.ptb_options.specs.CommandLine.{number_option, rules as tool_rules}
-use Rattle.ptb_options.specs.WrongNumbers.{IsNumberRange, option_word}
+use Rattle.ptb_options.specs.WrongNumbers.{IsNumberRange, option_argument}
 
 -- what holds of each option with a number holds of every rule of one
 module _ (P : List ℕ → ValueParser → Type 0)
@@ -87,10 +87,10 @@ is_equals b = eqb b 61
 
 pub record IsCut (name : List ℕ) : Type 0 where
   pub inside : (value : List ℕ)
-      → position_or_len is_equals (option_word name ++ 61 ∷ value) < length (option_word name ++ 61 ∷ value)
-  pub before : (value : List ℕ) → before_first is_equals (option_word name ++ 61 ∷ value) ≡ option_word name
-  pub after : (value : List ℕ) → after_first is_equals (option_word name ++ 61 ∷ value) ≡ value
-  pub alone : position_or_len is_equals (option_word name) ≡ length (option_word name)
+      → position_or_len is_equals (option_argument name ++ 61 ∷ value) < length (option_argument name ++ 61 ∷ value)
+  pub before : (value : List ℕ) → before_first is_equals (option_argument name ++ 61 ∷ value) ≡ option_argument name
+  pub after : (value : List ℕ) → after_first is_equals (option_argument name ++ 61 ∷ value) ≡ value
+  pub alone : position_or_len is_equals (option_argument name) ≡ length (option_argument name)
 
 pub cut : (name : List ℕ) (range : ValueParser) → Contains tool_rules (number_option name range) → IsCut name
 cut = each_number (λ name range. IsCut name)

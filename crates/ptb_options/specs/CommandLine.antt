@@ -23,7 +23,7 @@ text_option name = record (new_rule name) { long = Some name; value_names = 1 }
 abbrev pub flag : List ℕ → Rule
 flag name = record (new_rule name) { long = Some name; action = Some SetTrue }
 
--- a word that is no option
+-- an argument that is no option
 abbrev pub positional : List ℕ → Rule
 positional name = record (new_rule name) { value_names = 1 }
 

@@ -8,5 +8,5 @@ pub use Rattle.ptb_options.specs.Options.{IsFirstMisspelled, IsSpelled, RefusesO
 pub use Rattle.ptb_options.specs.Options.{SpellsIfGiven, LacksMemory, clash, clashes, entries_of, first_fault, form_of}
 pub use Rattle.ptb_options.specs.Options.{is_given, options_of}
 pub use Rattle.ptb_options.specs.WrongNumbers.{HasNoWrongNumber, HasNoWrongValue, IsNumberOption, IsNumberRange}
-pub use Rattle.ptb_options.specs.WrongNumbers.{IsWrongFor, IsWrongNumber, IsWrongValue, NamesNoNumber, option_word}
+pub use Rattle.ptb_options.specs.WrongNumbers.{IsWrongFor, IsWrongNumber, IsWrongValue, NamesNoNumber, option_argument}
 pub use Rattle.ptb_options.specs.declared.mistakes.ListOption.{ListOption}

@@ -107,8 +107,8 @@ fn parse_items<T: ListItem>(alloc: Global, text: &str) -> Result<Vec<T>, UsageFa
     if text == "none" {
         return Ok(items);
     }
-    for word in text.split(',') {
-        let item = T::parse(word).ok_or(UsageFault::BadList)?;
+    for piece in text.split(',') {
+        let item = T::parse(piece).ok_or(UsageFault::BadList)?;
         items.push(item)?;
     }
     Ok(items)

@@ -38,14 +38,14 @@ pub(crate) fn command<'a>(alloc: Global) -> Result<Command<'a>, AllocError>
 /// # Errors
 ///
 /// clap's error, with its text; where the arguments are right, it is always lack of memory.
-pub fn parse<'a, S: AsStr>(alloc: Global, words: &'a [S]) -> Result<ArgMatches<'a>, Error>
+pub fn parse<'a, S: AsStr>(alloc: Global, arguments: &'a [S]) -> Result<ArgMatches<'a>, Error>
     ensures entries { IfOk result (λ m.
-        entries_of m ≡ matches_of tool (map S.text words.entry.now)) }
+        entries_of m ≡ matches_of tool (map S.text arguments.entry.now)) }
     ensures memory { IfOk result (λ m. HasMemorySize (options_of (entries_of m))) }
     ensures bound { IfOk result (λ m. HasBound (options_of (entries_of m))) }
-    ensures kinds { FailsBy (fault_of tool (map S.text words.entry.now)) result }
+    ensures kinds { FailsBy (fault_of tool (map S.text arguments.entry.now)) result }
 {
-    command(alloc)?.try_get_matches_from(words)
+    command(alloc)?.try_get_matches_from(arguments)
 }
 
 /// The status that the program exits with where clap answers an error of this kind.

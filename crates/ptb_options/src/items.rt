@@ -7,14 +7,14 @@ ghost use Rattle.ptb_options.specs.AnswerLists.{SpellsItem, SpellsNumber};
 
 use ptb_answers::Marked;
 
-// The item that a word writes, if it is one.
-pub(crate) fn parse_item(word: &str) -> Option<Marked>
-    ensures some { IfSome result (λ m. SpellsItem word.now m) }
-    ensures only { (m : Marked) → SpellsItem word.now m → result ≡ Some m }
+// The item that a text spells, if it is one.
+pub(crate) fn parse_item(text: &str) -> Option<Marked>
+    ensures some { IfSome result (λ m. SpellsItem text.now m) }
+    ensures only { (m : Marked) → SpellsItem text.now m → result ≡ Some m }
 {
-    let Some((answer, bound)) = word.split_once('/') else {
+    let Some((answer, bound)) = text.split_once('/') else {
         return Some(Marked {
-            answer: parse_number(word)?,
+            answer: parse_number(text)?,
             bound: None,
         });
     };
@@ -29,25 +29,25 @@ pub(crate) trait ListItem: Drop {
     /// The item as reports write it.
     ghost marked: { Self → Marked };
 
-    /// The item that a word writes, if it is one.
-    fn parse(word: &str) -> Option<Self>
-        ensures some { IfSome result (λ x. SpellsItem word.now (marked x)) }
-        ensures only { (x : Self) → SpellsItem word.now (marked x) → result ≡ Some x };
+    /// The item that a text spells, if it is one.
+    fn parse(text: &str) -> Option<Self>
+        ensures some { IfSome result (λ x. SpellsItem text.now (marked x)) }
+        ensures only { (x : Self) → SpellsItem text.now (marked x) → result ≡ Some x };
 }
 
 impl ListItem for Marked {
     ghost marked = { λ m. m };
 
-    fn parse(word: &str) -> Option<Marked> {
-        parse_item(word)
+    fn parse(text: &str) -> Option<Marked> {
+        parse_item(text)
     }
 }
 
 impl ListItem for i16 {
     ghost marked = { without_bound };
 
-    fn parse(word: &str) -> Option<i16> {
-        let item = parse_item(word)?;
+    fn parse(text: &str) -> Option<i16> {
+        let item = parse_item(text)?;
         if item.bound.is_some() {
             return None;
         }
@@ -55,15 +55,15 @@ impl ListItem for i16 {
     }
 }
 
-// The number that a word writes, if a list may have it. `parse` takes signs and leading zeros, which
+// The number that a text spells, if a list may have it. `parse` takes signs and leading zeros, which
 // a list may not have, so the first byte is tested before.
-fn parse_number(word: &str) -> Option<i16>
-    ensures some { IfSome result (λ k. SpellsNumber word.now k) }
-    ensures only { (k : ℤ) → SpellsNumber word.now k → result ≡ Some k }
+fn parse_number(text: &str) -> Option<i16>
+    ensures some { IfSome result (λ k. SpellsNumber text.now k) }
+    ensures only { (k : ℤ) → SpellsNumber text.now k → result ≡ Some k }
 {
-    let bytes = word.as_bytes();
+    let bytes = text.as_bytes();
     if bytes.is_empty() || bytes[0] < b'1' || bytes[0] > b'9' {
         return None;
     }
-    word.parse().ok()
+    text.parse().ok()
 }

@@ -86,12 +86,12 @@ pub(crate) fn list_mistake(text: &str, bounds: Bounds) -> Option<ListMistake<'_>
         return None;
     }
     let mut item = 0;
-    for word in text.split(',') {
+    for piece in text.split(',') {
         item += 1;
-        if let Some(fault) = item_fault(word, bounds) {
+        if let Some(fault) = item_fault(piece, bounds) {
             return Some(ListMistake {
                 item,
-                text: word,
+                text: piece,
                 fault,
             });
         }
@@ -100,11 +100,11 @@ pub(crate) fn list_mistake(text: &str, bounds: Bounds) -> Option<ListMistake<'_>
 }
 
 // What is wrong with the text of an item, if anything is.
-fn item_fault(word: &str, bounds: Bounds) -> Option<ItemFault>
-    ensures none { result ≡ None → IsItemOf bounds word.now }
-    ensures some { IfSome result (IsFault bounds word.now) }
+fn item_fault(piece: &str, bounds: Bounds) -> Option<ItemFault>
+    ensures none { result ≡ None → IsItemOf bounds piece.now }
+    ensures some { IfSome result (IsFault bounds piece.now) }
 {
-    let Some(item) = parse_item(word) else {
+    let Some(item) = parse_item(piece) else {
         return Some(ItemFault::NotANumber);
     };
     match bounds {

@@ -4,7 +4,7 @@ ghost use Rattle.std.specs.Prelude.{◌≡◌, ◌↔◌, IsTrue, IfSome, Some, 
 ghost use Rattle.std.specs.Fmt.{WritesOnOk};
 ghost use Rattle.ptb_options.specs.Prelude.{Accepts, number_text, range_text, HasNoWrongNumber, HasNoWrongValue};
 ghost use Rattle.ptb_options.specs.Prelude.{IsNumberOption, IsNumberRange, IsWrongFor, IsWrongNumber, IsWrongValue};
-ghost use Rattle.ptb_options.specs.Prelude.{NamesNoNumber, option_word};
+ghost use Rattle.ptb_options.specs.Prelude.{NamesNoNumber, option_argument};
 
 use crate::command_line::{ARGS, ArgKind};
 use clap::builder::ValueParser;
@@ -55,16 +55,16 @@ fn write_range<W: fmt::Write>(range: ValueParser<'_>, f: &mut fmt::Formatter<W>)
 /// the argument after the option's. The first argument is the program's name, and after `--` no
 /// argument is an option. Where clap's error is of kind `ValueValidation`, or `UnknownArgument` for a
 /// negative number, this says what is wrong more plainly.
-pub fn wrong_number<'a, S: AsStr>(words: &'a [S]) -> Option<WrongNumber<'a>>
-    ensures some { IfSome result (IsWrongNumber (map S.text words.entry.now)) }
-    ensures none { result ≡ None → HasNoWrongNumber (map S.text words.entry.now) }
+pub fn wrong_number<'a, S: AsStr>(arguments: &'a [S]) -> Option<WrongNumber<'a>>
+    ensures some { IfSome result (IsWrongNumber (map S.text arguments.entry.now)) }
+    ensures none { result ≡ None → HasNoWrongNumber (map S.text arguments.entry.now) }
 {
-    for i in 1..words.len() {
-        let word = text_at(words, i)?;
-        if word == "--" {
+    for i in 1..arguments.len() {
+        let argument = text_at(arguments, i)?;
+        if argument == "--" {
             return None;
         }
-        let wrong = wrong_value(word, text_at(words, i + 1));
+        let wrong = wrong_value(argument, text_at(arguments, i + 1));
         if wrong.is_some() {
             return wrong;
         }
@@ -73,24 +73,24 @@ pub fn wrong_number<'a, S: AsStr>(words: &'a [S]) -> Option<WrongNumber<'a>>
 }
 
 // The argument at an index, if there is one.
-fn text_at<'a, S: AsStr>(words: &'a [S], i: usize) -> Option<&'a str>
-    ensures { option_copied result ≡ slice_get (map S.text words.entry.now) i }
+fn text_at<'a, S: AsStr>(arguments: &'a [S], i: usize) -> Option<&'a str>
+    ensures { option_copied result ≡ slice_get (map S.text arguments.entry.now) i }
 {
-    match words.get(i) {
-        Some(word) => Some(word.as_str()),
+    match arguments.get(i) {
+        Some(argument) => Some(argument.as_str()),
         None => None,
     }
 }
 
-// What is wrong with the value of an option with a number, where the argument `word` is one.
-fn wrong_value<'a>(word: &'a str, next: Option<&'a str>) -> Option<WrongNumber<'a>>
-    ensures some { IfSome result (IsWrongValue (Some word.entry.now) (option_copied next.entry)) }
+// What is wrong with the value of an option with a number, where an argument is one.
+fn wrong_value<'a>(argument: &'a str, next: Option<&'a str>) -> Option<WrongNumber<'a>>
+    ensures some { IfSome result (IsWrongValue (Some argument.entry.now) (option_copied next.entry)) }
     ensures none { result ≡ None
-        → HasNoWrongValue (Some word.entry.now) (option_copied next.entry) }
+        → HasNoWrongValue (Some argument.entry.now) (option_copied next.entry) }
 {
-    match word.split_once('=') {
+    match argument.split_once('=') {
         Some((name, value)) => wrong_for(number_option(name)?, value),
-        None => wrong_for(number_option(word)?, next?),
+        None => wrong_for(number_option(argument)?, next?),
     }
 }
 
@@ -107,13 +107,13 @@ fn wrong_for(option: NumberOption, value: &str) -> Option<WrongNumber<'_>>
 }
 
 // The option with a number that an argument names.
-fn number_option(word: &str) -> Option<NumberOption>
-    ensures some { IfSome result (IsNumberOption word.now) }
-    ensures none { result ≡ None → NamesNoNumber word.now }
+fn number_option(argument: &str) -> Option<NumberOption>
+    ensures some { IfSome result (IsNumberOption argument.now) }
+    ensures none { result ≡ None → NamesNoNumber argument.now }
 {
     for listed in ARGS {
         if let ArgKind::Number(range) = listed.kind {
-            if is_named(word, listed.name) {
+            if is_named(argument, listed.name) {
                 return Some(NumberOption {
                     name: listed.name,
                     range,
@@ -125,10 +125,10 @@ fn number_option(word: &str) -> Option<NumberOption>
 }
 
 // Whether an argument is the option of this name.
-fn is_named(word: &str, name: &str) -> bool
-    ensures { IsTrue result ↔ word.now ≡ option_word name.now }
+fn is_named(argument: &str, name: &str) -> bool
+    ensures { IsTrue result ↔ argument.now ≡ option_argument name.now }
 {
-    match word.as_bytes().strip_prefix(b"--") {
+    match argument.as_bytes().strip_prefix(b"--") {
         Some(rest) => rest == name.as_bytes(),
         None => false,
     }

@@ -13,7 +13,7 @@ use ptb_options::{
 use std::alloc::{AllocError, Global};
 use std::process::Abort;
 
-// What is said against words: by clap, or by the tool where clap takes them.
+// What is said against arguments: by clap, or by the tool where clap takes them.
 #[derive(Clone, Copy, Debug, PartialEq, Eq)]
 enum Fault {
     ByClap(ErrorKind),
@@ -21,38 +21,38 @@ enum Fault {
 }
 
 // The request of these arguments; the first of them is the program's name.
-fn decided(alloc: Global, words: &[&str]) -> Result<Request, Fault> {
-    match parse(alloc, words) {
+fn decided(alloc: Global, arguments: &[&str]) -> Result<Request, Fault> {
+    match parse(alloc, arguments) {
         Ok(matches) => decide(alloc, &matches).map_err(Fault::ByTool),
         Err(error) => Err(Fault::ByClap(error.kind())),
     }
 }
 
-// What is said against words.
-fn refusal(alloc: Global, words: &[&str]) -> Option<Fault> {
-    decided(alloc, words).err()
+// What is said against arguments.
+fn refusal(alloc: Global, arguments: &[&str]) -> Option<Fault> {
+    decided(alloc, arguments).err()
 }
 
 // The arguments of a line, with one blank between two of them.
-fn words_of(alloc: Global, line: &str) -> Result<Vec<&str>, AllocError> {
-    let mut words = Vec::new(alloc);
-    for word in line.split(' ') {
-        words.push(word)?;
+fn arguments_of(alloc: Global, line: &str) -> Result<Vec<&str>, AllocError> {
+    let mut arguments = Vec::new(alloc);
+    for argument in line.split(' ') {
+        arguments.push(argument)?;
     }
-    Ok(words)
+    Ok(arguments)
 }
 
 // The error for the arguments of a line.
 fn line_refusal(alloc: Global, line: &str) -> Option<Fault> {
-    match words_of(alloc, line) {
-        Ok(words) => refusal(alloc, &words),
+    match arguments_of(alloc, line) {
+        Ok(arguments) => refusal(alloc, &arguments),
         Err(AllocError) => Some(Fault::ByTool(UsageFault::Memory)),
     }
 }
 
 // The request that the arguments of a line make, if they make one.
 fn requested(alloc: Global, line: &str) -> Option<Request> {
-    decided(alloc, &words_of(alloc, line).ok()?).ok()
+    decided(alloc, &arguments_of(alloc, line).ok()?).ok()
 }
 
 // Whether a fault has this status, and one of the tool this line.
@@ -245,7 +245,7 @@ const REFUSALS: &[(Fault, u8, &str, &[&str])] = &[
             "ptb --answers=1/1",
             "ptb --answers=2,1/3",
             "ptb --answers=2/2,1/3",
-            // an empty word
+            // an empty argument
             "ptb --answers ",
         ],
     ),
@@ -403,7 +403,7 @@ impl Row<Global> for NoList {
 const NO_NUMBER: ItemFault = ItemFault::NotANumber;
 
 // The arguments that give an option this list.
-fn words_with(option: ListOption, list: &str) -> [&str; 4] {
+fn arguments_with(option: ListOption, list: &str) -> [&str; 4] {
     match option {
         ListOption::Under => ["ptb", "--all", "--under", list],
         ListOption::After => ["ptb", "--all", "--after", list],
@@ -419,8 +419,8 @@ impl Row<Global> for Misspelled {
     fn holds(&self, alloc: &Global) -> bool {
         let Misspelled(list, option, item, text, fault) = *self;
         let mistake = ListMistake { item, text, fault };
-        let words = words_with(option, list);
-        match parse(*alloc, words.as_slice()) {
+        let arguments = arguments_with(option, list);
+        match parse(*alloc, arguments.as_slice()) {
             Ok(matches) => misspelled_list(&matches) == Some(MisspelledList { option, mistake }),
             Err(_) => false,
         }
@@ -460,8 +460,8 @@ const SAID: &[Said] = table! { Said:
 };
 
 // Whether this line says which list of the arguments is misspelled; none where each is spelled.
-fn says_misspelled(alloc: Global, words: &[&str], line: &str) -> Option<bool> {
-    let matches = parse(alloc, words).ok()?;
+fn says_misspelled(alloc: Global, arguments: &[&str], line: &str) -> Option<bool> {
+    let matches = parse(alloc, arguments).ok()?;
     let said = misspelled_list(&matches)?.to_string(alloc).ok()?;
     Some(said.as_str() == line)
 }
@@ -488,10 +488,10 @@ enum List {
 struct Spelled(&'static str, List);
 
 // Whether these arguments ask for this, and no list of theirs is misspelled.
-fn is_given(alloc: Global, words: &[&str], asked: &Asked) -> bool {
-    match decided(alloc, words) {
+fn is_given(alloc: Global, arguments: &[&str], asked: &Asked) -> bool {
+    match decided(alloc, arguments) {
         Ok(request) => {
-            is_asked(&request.mode, asked) && says_misspelled(alloc, words, "").is_none()
+            is_asked(&request.mode, asked) && says_misspelled(alloc, arguments, "").is_none()
         }
         Err(_) => false,
     }
@@ -501,13 +501,13 @@ impl Row<Global> for Spelled {
     fn holds(&self, alloc: &Global) -> bool {
         match self.1 {
             List::Answers(wanted) => {
-                let words = words_with(ListOption::Answers, self.0);
-                is_given(*alloc, &words, &Asked::Run(wanted))
+                let arguments = arguments_with(ListOption::Answers, self.0);
+                is_given(*alloc, &arguments, &Asked::Run(wanted))
             }
             List::Marked(wanted) => {
                 let (under, after) = (
-                    words_with(ListOption::Under, self.0),
-                    words_with(ListOption::After, self.0),
+                    arguments_with(ListOption::Under, self.0),
+                    arguments_with(ListOption::After, self.0),
                 );
                 let list = Some(wanted);
                 is_given(*alloc, &under, &Asked::All(list, None, None, Form::Two))
@@ -731,25 +731,25 @@ fn requests(rt: HostRuntime) {
     expect_rows(&rt, "names of programs", &alloc, PROGRAMS);
 }
 
-// The text that clap has for a word, and whether it belongs on standard error.
-fn told(alloc: Global, word: &str) -> Option<(String, bool)> {
-    match parse(alloc, &["ptb", word]) {
+// The text that clap has for an argument, and whether it belongs on standard error.
+fn told(alloc: Global, argument: &str) -> Option<(String, bool)> {
+    match parse(alloc, &["ptb", argument]) {
         Ok(_) => None,
         Err(error) => Some((error.to_string(alloc).ok()?, error.use_stderr())),
     }
 }
 
-// Whether clap has this text for a word, and whether it belongs on standard error.
-fn is_told(alloc: Global, word: &str, wanted: &str) -> Option<(bool, bool)> {
-    let (text, on_standard_error) = told(alloc, word)?;
+// Whether clap has this text for an argument, and whether it belongs on standard error.
+fn is_told(alloc: Global, argument: &str, wanted: &str) -> Option<(bool, bool)> {
+    let (text, on_standard_error) = told(alloc, argument)?;
     Some((text.as_str() == wanted, on_standard_error))
 }
 
 #[test]
 fn the_version_is_a_line(rt: HostRuntime) {
-    for word in ["--version", "-V"] {
-        let found = is_told(rt.alloc(), word, "ptb 1.1.0\n");
-        expect_same(&rt, word, found, Some((true, false)));
+    for argument in ["--version", "-V"] {
+        let found = is_told(rt.alloc(), argument, "ptb 1.1.0\n");
+        expect_same(&rt, argument, found, Some((true, false)));
     }
 }
 
@@ -814,8 +814,8 @@ const WRONG_NUMBERS: &[(&str, ErrorKind, &str)] = &[
 
 // The text on the first wrong number of a command line, if there is one.
 fn wrong_text(alloc: Global, line: &str) -> Option<String> {
-    let words = words_of(alloc, line).ok()?;
-    wrong_number(&words)?.to_string(alloc).ok()
+    let arguments = arguments_of(alloc, line).ok()?;
+    wrong_number(&arguments)?.to_string(alloc).ok()
 }
 
 #[test]
@@ -943,13 +943,13 @@ fn expect_lines(rt: &impl Abort, text: &str, wanted: &[&str]) {
 
 #[test]
 fn help_line_by_line(rt: HostRuntime) {
-    for word in ["--help", "-h"] {
-        match told(rt.alloc(), word) {
+    for argument in ["--help", "-h"] {
+        match told(rt.alloc(), argument) {
             Some((text, on_standard_error)) => {
                 expect_lines(&rt, text.as_str(), HELP);
-                expect_same(&rt, word, on_standard_error, false);
+                expect_same(&rt, argument, on_standard_error, false);
             }
-            None => expect_same(&rt, word, false, true),
+            None => expect_same(&rt, argument, false, true),
         }
     }
 }

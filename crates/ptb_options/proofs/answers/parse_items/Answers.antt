@@ -23,19 +23,19 @@ returns-then-eq g c = record {
   fault = tt;
 }
 
-pub loop-word-preserved : goal.loop-word-preserved
-loop-word-preserved g c =
+pub loop-piece-preserved : goal.loop-piece-preserved
+loop-piece-preserved g c =
     let f = g.T.ListItem.marked in
     let item = c.in_ok-item.item in
-    let pushed : c.push.new.self.items ≡ c.loop-word.items.items ++ item ∷ [] = c.in_ok-push.ensures.items in
+    let pushed : c.push.new.self.items ≡ c.loop-piece.items.items ++ item ∷ [] = c.in_ok-push.ensures.items in
     let read : c.parse.result ≡ Some item = c.ok_or.ensures.ok_part ∙ ap result_ok c.in_ok-item.was in
-    let spells : SpellsItem c.in-Some.word.now (f item) = rw read at c.parse.ensures.some in
+    let spells : SpellsItem c.in-Some.piece.now (f item) = rw read at c.parse.ensures.some in
     record {
-      words = rw (pushed, map-append f c.loop-word.items.items (item ∷ [])) (more_words c.loop-word.yielded
-          (map f c.loop-word.items.items) c.in-Some.word (f item) c.loop-word.invariant.words spells.1);
+      pieces = rw (pushed, map-append f c.loop-piece.items.items (item ∷ [])) (more_words c.loop-piece.yielded
+          (map f c.loop-piece.items.items) c.in-Some.piece (f item) c.loop-piece.invariant.pieces spells.1);
       each =
-          rw (pushed, map-append f c.loop-word.items.items (item ∷ []))
-          (All-push IsItem (map f c.loop-word.items.items) (f item) c.loop-word.invariant.each spells.0);
+          rw (pushed, map-append f c.loop-piece.items.items (item ∷ []))
+          (All-push IsItem (map f c.loop-piece.items.items) (f item) c.loop-piece.invariant.each spells.0);
     }
 
 pub returns-in_err-item : goal.returns-in_err-item
@@ -43,13 +43,13 @@ returns-in_err-item g c = record {
   ok = refused_is_read _ c.from_residual.result _ c.from_residual.ensures.1;
   bad = λ bad items spells.
       let text = c.args.text.now in
-      let split = c.split-word-items.ensures in
-      let words = words_of text c.into_iter-word-iterator.ensures.into_iter_gives split.text split.has_more
+      let split = c.split-piece-items.ensures in
+      let pieces = words_of text c.into_iter-piece-iterator.ensures.into_iter_gives split.text split.has_more
       split.pattern in
-      let turn = YieldsList-turn words c.loop-word.yielded _ c.loop-word.yielded_by _ _ c.in-Some.word c.in-Some.is
+      let turn = YieldsList-turn pieces c.loop-piece.yielded _ c.loop-piece.yielded_by _ _ c.in-Some.piece c.in-Some.is
       c.next.ensures.steps in
       let some = some_text text c.eq.result c.eq.ensures c.if-eq.false in
-      let spelled = word_of_items g.T.ListItem.marked text items _ c.in-Some.word.now some spells turn.0 turn.1 in
+      let spelled = word_of_items g.T.ListItem.marked text items _ c.in-Some.piece.now some spells turn.0 turn.1 in
       let read = c.parse.ensures.only spelled.0 spelled.1 in
       none-some spelled.0 (sym (c.ok_or.ensures.ok_part ∙ ap result_ok c.in_err-item.was) ∙ read);
   memory = λ refused. some_text c.args.text.now c.eq.result c.eq.ensures c.if-eq.false;
@@ -69,14 +69,14 @@ pub returns : goal.returns
 returns g c = record {
   ok =
       let text = c.args.text.now in
-      let split = c.split-word-items.ensures in
-      let words = words_of text c.into_iter-word-iterator.ensures.into_iter_gives split.text split.has_more
+      let split = c.split-piece-items.ensures in
+      let pieces = words_of text c.into_iter-piece-iterator.ensures.into_iter_gives split.text split.has_more
       split.pattern in
-      let all = YieldsList-end words c.loop-word.yielded _ c.loop-word.yielded_by _ _ c.in-None.is
+      let all = YieldsList-end pieces c.loop-piece.yielded _ c.loop-piece.yielded_by _ _ c.in-None.is
       c.next.ensures.steps in
-      list_of_words text (map g.T.ListItem.marked c.loop-word.items.items) c.loop-word.invariant.each
-      (sym all.0 ∙ c.loop-word.invariant.words);
-  bad = read_is_bad c.loop-word.items;
-  memory = read_is_memory c.loop-word.items;
+      list_of_words text (map g.T.ListItem.marked c.loop-piece.items.items) c.loop-piece.invariant.each
+      (sym all.0 ∙ c.loop-piece.invariant.pieces);
+  bad = read_is_bad c.loop-piece.items;
+  memory = read_is_memory c.loop-piece.items;
   fault = tt;
 }

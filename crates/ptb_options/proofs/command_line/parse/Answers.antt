@@ -12,14 +12,16 @@ use Rattle.ptb_options.proofs.command_line.parse.Goals as goal
 is_simple-tool : is_simple tool ≡ true
 is_simple-tool = refl
 
-entries_by_app : (a t : App) (words : List Text) (m : ArgMatches) → HasMatchesOf a words m → a ≡ t → is_simple t ≡ true
-    → entries_of m ≡ matches_of t words
-entries_by_app a t words m found e simple = (found (ap is_simple e ∙ simple)).0 ∙ ap (λ (x : App). matches_of x words) e
+entries_by_app : (a t : App) (arguments : List Text) (m : ArgMatches) → HasMatchesOf a arguments m → a ≡ t
+    → is_simple t ≡ true
+    → entries_of m ≡ matches_of t arguments
+entries_by_app a t arguments m found e simple = (found (ap is_simple e ∙ simple)).0
+    ∙ ap (λ (x : App). matches_of x arguments) e
 
 pub returns-clause-entries : goal.returns-clause-entries
 returns-clause-entries g c =
     IfOk-weaker c.try_get_matches_from.result _ _
-    (λ m found. entries_by_app _ tool (map g.S.AsStr.text c.args.words.now) m found c.in_ok-command.ensures
+    (λ m found. entries_by_app _ tool (map g.S.AsStr.text c.args.arguments.now) m found c.in_ok-command.ensures
     is_simple-tool)
     c.try_get_matches_from.ensures.matches
 
@@ -39,13 +41,14 @@ returns-clause-bound g c =
 is_free-tool : is_simple_and_free tool ≡ true
 is_free-tool = refl
 
-fails_by_app : (a t : App) (words : List Text) (r : Result ArgMatches Error)
-    → (is_simple_and_free a ≡ true → FailsBy (fault_of a words) r) → a ≡ t → is_simple_and_free t ≡ true
-    → FailsBy (fault_of t words) r
-fails_by_app a t words r fails e free =
-    subst (λ (x : App). FailsBy (fault_of x words) r) e (fails (ap is_simple_and_free e ∙ free))
+fails_by_app : (a t : App) (arguments : List Text) (r : Result ArgMatches Error)
+    → (is_simple_and_free a ≡ true → FailsBy (fault_of a arguments) r) → a ≡ t → is_simple_and_free t ≡ true
+    → FailsBy (fault_of t arguments) r
+fails_by_app a t arguments r fails e free =
+    subst (λ (x : App). FailsBy (fault_of x arguments) r) e (fails (ap is_simple_and_free e ∙ free))
 
 pub returns-clause-kinds : goal.returns-clause-kinds
 returns-clause-kinds g c =
     fails_by_app _ tool
-    (map g.S.AsStr.text c.args.words.now) _ c.try_get_matches_from.ensures.kinds c.in_ok-command.ensures is_free-tool
+    (map g.S.AsStr.text c.args.arguments.now) _ c.try_get_matches_from.ensures.kinds
+    c.in_ok-command.ensures is_free-tool

@@ -14,7 +14,7 @@ IfSome-result_ok E P (Err e) h = tt
 
 pub returns-then-is_empty-clause-only : goal.returns-then-is_empty-clause-only
 returns-then-is_empty-clause-only c k h =
-    let first = rw (← c.as_bytes-bytes.ensures.value) at (SpellsNumber-first c.args.word.now k h) in
+    let first = rw (← c.as_bytes-bytes.ensures.value) at (SpellsNumber-first c.args.text.now k h) in
     elim c.then-is_empty.branch [
       | then-is_empty-via-then-is_empty w ↦ absurd (grind (arith, w.if-is_empty.ensures))
       | then-is_empty-via-else-is_empty+then-bytes-lt49 w ↦ absurd (omega arith)
@@ -23,11 +23,11 @@ returns-then-is_empty-clause-only c k h =
 
 pub returns-clause-some : goal.returns-clause-some
 returns-clause-some c =
-    let low : 49 ≤ get_or c.args.word.now 0 0 = rw (← c.as_bytes-bytes.ensures.value) (omega arith) in
-    let high : get_or c.args.word.now 0 0 ≤ 57 = rw (← c.as_bytes-bytes.ensures.value) (omega arith) in
-    let spelled = SpellsNumber-from_parse _ c.args.word.now c.parse.result low high c.parse.ensures.value.0 in
-    rw c.ok.ensures.value (IfSome-result_ok _ (SpellsNumber c.args.word.now) c.parse.result spelled)
+    let low : 49 ≤ get_or c.args.text.now 0 0 = rw (← c.as_bytes-bytes.ensures.value) (omega arith) in
+    let high : get_or c.args.text.now 0 0 ≤ 57 = rw (← c.as_bytes-bytes.ensures.value) (omega arith) in
+    let spelled = SpellsNumber-from_parse _ c.args.text.now c.parse.result low high c.parse.ensures.value.0 in
+    rw c.ok.ensures.value (IfSome-result_ok _ (SpellsNumber c.args.text.now) c.parse.result spelled)
 
 pub returns-clause-only : goal.returns-clause-only
 returns-clause-only c k h =
-    c.ok.ensures.value ∙ ap result_ok (parse-SpellsNumber _ c.args.word.now k c.parse.result h c.parse.ensures.value.0)
+    c.ok.ensures.value ∙ ap result_ok (parse-SpellsNumber _ c.args.text.now k c.parse.result h c.parse.ensures.value.0)

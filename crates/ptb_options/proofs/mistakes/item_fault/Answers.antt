@@ -6,9 +6,9 @@ use Rattle.ptb_options.proofs.mistakes.item_fault.Goals as goal
 
 pub returns-in_default-clause-some : goal.returns-in_default-clause-some
 returns-in_default-clause-some c =
-    no_item c.args.bounds c.args.word.now (λ m h. none-some m (c.in_default.ensures.only m h))
+    no_item c.args.bounds c.args.piece.now (λ m h. none-some m (c.in_default.ensures.only m h))
 
 pub returns-then-is_some-clause-some : goal.returns-then-is_some-clause-some
 returns-then-is_some-clause-some c =
     rw c.in-Refused.is
-    (marked_item c.args.word.now c.in-Some.item c.in-Some.ensures.some (sym c.is_some.ensures ∙ c.if-is_some.true))
+    (marked_item c.args.piece.now c.in-Some.item c.in-Some.ensures.some (sym c.is_some.ensures ∙ c.if-is_some.true))

@@ -14,48 +14,48 @@ use Rattle.ptb_options.proofs.ListReturns.{none_spelled, some_text}
 use Rattle.ptb_options.proofs.mistakes.list_mistake.Goals as goal
 use Rattle.ptb_options.proofs.mistakes.list_mistake.Goals.{After-next}
 
--- the words of the text, one after another
-words : (c : After-next)
-    → YieldsList (split_steps FindsChar (λ a b. b ≡ a)) (λ x. x.now) c.into_iter-word-iterator.result
+-- the pieces of the text, one after another
+pieces : (c : After-next)
+    → YieldsList (split_steps FindsChar (λ a b. b ≡ a)) (λ x. x.now) c.into_iter-piece-iterator.result
     (slice_split (λ b. b == 44) c.args.text.now)
-words c =
-    let split = c.split-word-items.ensures in
-    words_of c.args.text.now c.into_iter-word-iterator.ensures.into_iter_gives split.text split.has_more split.pattern
+pieces c =
+    let split = c.split-piece-items.ensures in
+    words_of c.args.text.now c.into_iter-piece-iterator.ensures.into_iter_gives split.text split.has_more split.pattern
 
 pub overflow_add-item : goal.overflow_add-item
 overflow_add-item c =
     let text = c.args.text.now in
-    let turn = YieldsList-turn (words (goal.at.overflow_add-item c).After-next) c.loop-word.yielded _
-    c.loop-word.yielded_by _ _ c.in-Some.word c.in-Some.is c.next.ensures.steps in
+    let turn = YieldsList-turn (pieces (goal.at.overflow_add-item c).After-next) c.loop-piece.yielded _
+    c.loop-piece.yielded_by _ _ c.in-Some.piece c.in-Some.is c.next.ensures.steps in
     let all = length-slice_split (λ b. b == 44) text in
     let few = count_by-le-length (λ b. b == 44) text in
-    omega (arith, turn.0, all, few, c.loop-word.invariant.counted)
+    omega (arith, turn.0, all, few, c.loop-piece.invariant.counted)
 
 pub returns-then-eq-clause-none : goal.returns-then-eq-clause-none
 returns-then-eq-clause-none c _ =
     none_is_list_of c.args.bounds c.args.text.now (none_spelled c.args.text.now c.eq.result c.eq.ensures c.if-eq.true)
 
-pub loop-word-preserved : goal.loop-word-preserved
-loop-word-preserved c = record {
+pub loop-piece-preserved : goal.loop-piece-preserved
+loop-piece-preserved c = record {
   items =
-      items_more c.args.bounds c.loop-word.yielded c.in-Some.word c.loop-word.invariant.items
+      items_more c.args.bounds c.loop-piece.yielded c.in-Some.piece c.loop-piece.invariant.items
       (c.item_fault.ensures.none c.in_default.is);
-  counted = omega (arith, length-append c.loop-word.yielded (c.in-Some.word ∷ []), c.loop-word.invariant.counted);
+  counted = omega (arith, length-append c.loop-piece.yielded (c.in-Some.piece ∷ []), c.loop-piece.invariant.counted);
 }
 
 pub returns-in-Some-item_fault-clause-some : goal.returns-in-Some-item_fault-clause-some
 returns-in-Some-item_fault-clause-some c =
     let text = c.args.text.now in
-    let all = words (goal.at.returns-in-Some-item_fault-clause-some c).After-next in
-    let turn = YieldsList-turn all c.loop-word.yielded _ c.loop-word.yielded_by _ _ c.in-Some.word c.in-Some.is
+    let all = pieces (goal.at.returns-in-Some-item_fault-clause-some c).After-next in
+    let turn = YieldsList-turn all c.loop-piece.yielded _ c.loop-piece.yielded_by _ _ c.in-Some.piece c.in-Some.is
     c.next.ensures.steps in
-    let so_far = YieldsList-so_far all c.loop-word.yielded _ c.loop-word.yielded_by in
-    mistake_at c.args.bounds text c.loop-word.yielded c.in-Some.word c.loop-word.item c.in-Some-item_fault.fault
+    let so_far = YieldsList-so_far all c.loop-piece.yielded _ c.loop-piece.yielded_by in
+    mistake_at c.args.bounds text c.loop-piece.yielded c.in-Some.piece c.loop-piece.item c.in-Some-item_fault.fault
     (some_text text c.eq.result c.eq.ensures c.if-eq.false)
-    so_far turn.0 turn.1 c.loop-word.invariant.items c.loop-word.invariant.counted c.in-Some-item_fault.ensures.some
+    so_far turn.0 turn.1 c.loop-piece.invariant.items c.loop-piece.invariant.counted c.in-Some-item_fault.ensures.some
 
 pub returns-clause-none : goal.returns-clause-none
 returns-clause-none c _ =
-    let all = YieldsList-end (words (goal.at.returns-clause-none c).After-next) c.loop-word.yielded _
-    c.loop-word.yielded_by _ _ c.in-None.is c.next.ensures.steps in
-    list_of_items c.args.bounds c.args.text.now (rw (← all.0) c.loop-word.invariant.items)
+    let all = YieldsList-end (pieces (goal.at.returns-clause-none c).After-next) c.loop-piece.yielded _
+    c.loop-piece.yielded_by _ _ c.in-None.is c.next.ensures.steps in
+    list_of_items c.args.bounds c.args.text.now (rw (← all.0) c.loop-piece.invariant.items)

@@ -8,5 +8,5 @@ use Rattle.ptb_options.proofs.wrong_numbers.number_option.Given as goal
 abbrev pub invariant-loop-listed : goal.invariant-loop-listed
 invariant-loop-listed l = record {
   so_far : map rule_of_listed (take l.listed-index l.listed-items) ≡ take l.listed-index rules;
-  unnamed : NamesNoneBefore l.word l.listed-index;
+  unnamed : NamesNoneBefore l.argument l.listed-index;
 }

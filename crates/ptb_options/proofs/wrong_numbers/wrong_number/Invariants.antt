@@ -5,4 +5,4 @@ use Rattle.ptb_options.proofs.wrong_numbers.wrong_number.Given as goal
 
 -- the arguments so far were skipped
 abbrev pub invariant-loop-i : goal.invariant-loop-i
-invariant-loop-i g l = ArePassed (map g.S.AsStr.text l.words) l.i
+invariant-loop-i g l = ArePassed (map g.S.AsStr.text l.arguments) l.i

@@ -11,29 +11,30 @@ wrong_for-requires-in-None c = number_range c.in_ok-number_option-in-None.field-
 
 pub returns-in_err-number_option-in-Some-clause-none : goal.returns-in_err-number_option-in-Some-clause-none
 returns-in_err-number_option-in-Some-clause-none c = λ _.
-    unnamed_after c.args.word.now (option_copied c.args.next) c.in-Some.name c.in-Some.value c.in-Some.ensures.cases
+    unnamed_after c.args.argument.now (option_copied c.args.next) c.in-Some.name c.in-Some.value c.in-Some.ensures.cases
     (c.number_option.ensures.none c.in_err-number_option-in-Some.was)
 
 pub returns-in_err-next-in-None-clause-none : goal.returns-in_err-next-in-None-clause-none
 returns-in_err-next-in-None-clause-none c =
-    λ _. last c.args.word.now (option_copied c.args.next) c.in-None.ensures.cases
+    λ _. last c.args.argument.now (option_copied c.args.next) c.in-None.ensures.cases
     (ap option_copied c.in_err-next-in-None.was)
 
 pub returns-in_ok-number_option-in-Some-clause-some : goal.returns-in_ok-number_option-in-Some-clause-some
 returns-in_ok-number_option-in-Some-clause-some c =
-    wrong_after c.args.word.now (option_copied c.args.next) c.in-Some.name c.in-Some.value c.in-Some.ensures.cases
+    wrong_after c.args.argument.now (option_copied c.args.next) c.in-Some.name c.in-Some.value c.in-Some.ensures.cases
     c.in_ok-number_option-in-Some.field-0 c.in_ok-number_option-in-Some.ensures.some
     c.wrong_for.result c.wrong_for.ensures.some
 
 pub returns-in_ok-number_option-in-Some-clause-none : goal.returns-in_ok-number_option-in-Some-clause-none
 returns-in_ok-number_option-in-Some-clause-none c = λ none.
-    accepted_after c.args.word.now (option_copied c.args.next) c.in-Some.name c.in-Some.value c.in-Some.ensures.cases
+    accepted_after c.args.argument.now (option_copied c.args.next) c.in-Some.name c.in-Some.value
+        c.in-Some.ensures.cases
     c.in_ok-number_option-in-Some.field-0 c.in_ok-number_option-in-Some.ensures.some
     (c.wrong_for.ensures.none none)
 
 pub returns-in_ok-next-in-None-clause-none : goal.returns-in_ok-next-in-None-clause-none
 returns-in_ok-next-in-None-clause-none c = λ none.
-    accepted_next c.args.word.now (option_copied c.args.next) c.in-None.ensures.cases
+    accepted_next c.args.argument.now (option_copied c.args.next) c.in-None.ensures.cases
     c.in_ok-number_option-in-None.field-0 c.in_ok-next-in-None.field-0.now
     (ap option_copied c.in_ok-next-in-None.was)
     c.in_ok-number_option-in-None.ensures.some (c.wrong_for-in-None.ensures.none none)

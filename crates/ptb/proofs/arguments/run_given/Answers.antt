@@ -1,6 +1,6 @@
--- This file answers what is left to prove of `run_words`.
+-- This file answers what is left to prove of `run_given`.
 use Rattle.std.proofs.Common.{inl}
-use Rattle.ptb.proofs.arguments.run_words.Goals as goal
+use Rattle.ptb.proofs.arguments.run_given.Goals as goal
 
 pub returns-in-Ok : goal.returns-in-Ok
 returns-in-Ok g c = record {
