@@ -13,7 +13,7 @@ use Rattle.ptb_command.specs.State.{Place}
 use Rattle.ptb_command.specs.Actions.{Action}
 use Rattle.ptb_command.specs.Act.{command_action}
 use Rattle.ptb_command.specs.Places.{IsSamePlace}
-use Rattle.ptb_command.specs.Reads.{IsFirstWord}
+use Rattle.ptb_command.specs.ReadCommands.{IsFirstWord}
 use Rattle.ptb_command.specs.Devices.{ScreenState, Devices, devices, Refusal, Unanswered, Unread}
 use Rattle.ptb_command.specs.Devices.{NoLine, refused_answers, refused_by}
 use Rattle.ptb_command.specs.Configuration.{Configuration}

@@ -7,7 +7,7 @@ use Rattle.ptb_text.specs.declared.word.Word.TheVariants.{LetKw}
 use Rattle.ptb_text.specs.Words.{word_at, token_at, Quotation, QuotedText, quotation_at}
 use Rattle.ptb_text.specs.FoundParts.{LiesAhead}
 use Rattle.ptb_command.specs.Commands.{or_quotation, string_at, command_by, command_at}
-use Rattle.ptb_command.specs.Reads.{IsFirstWord}
+use Rattle.ptb_command.specs.ReadCommands.{IsFirstWord}
 
 -- ---- strings
 

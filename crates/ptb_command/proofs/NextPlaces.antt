@@ -12,7 +12,7 @@ use Rattle.ptb_command.specs.Commands.{after_command, command_unless, command_ro
 use Rattle.ptb_command.specs.State.{Place, next_index}
 use Rattle.ptb_command.specs.Places.{IsSamePlace}
 use Rattle.ptb_command.specs.CommandLaws.{CommandLaws}
-use Rattle.ptb_command.specs.Reads.{IsClosed, NextBegins}
+use Rattle.ptb_command.specs.ReadCommands.{IsClosed, NextBegins}
 use Rattle.ptb_command.specs.Locations.{PlaceIs}
 use Rattle.ptb_command.specs.Representation.{Begun}
 

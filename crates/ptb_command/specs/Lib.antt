@@ -4,7 +4,7 @@ pub mod Commands
 pub mod State
 pub mod Places
 pub mod CommandLaws
-pub mod Reads
+pub mod ReadCommands
 pub mod Locations
 pub mod Stacks
 pub mod Code

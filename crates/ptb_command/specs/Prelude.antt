@@ -26,7 +26,7 @@ pub use Rattle.ptb_command.specs.Commands.{input_item, source, string_item, vari
 pub use Rattle.ptb_command.specs.Commands.{Assign, Show, Width, command_of, parts_of}
 pub use Rattle.ptb_command.specs.Locations.{PlacesAre, IsLineAt}
 pub use Rattle.ptb_command.specs.Places.{next_place}
-pub use Rattle.ptb_command.specs.Reads.{IsRead, NextBegins, IsNext}
+pub use Rattle.ptb_command.specs.ReadCommands.{IsRead, NextBegins, IsNext}
 pub use Rattle.ptb_command.specs.Stacks.{ClosesNewer, loop_of, FindsOpen, call_of, newest_loop, newest_return}
 pub use Rattle.ptb_command.specs.Stacks.{without, ClosesCall, ClosesNewest}
 pub use Rattle.ptb_command.specs.State.{statement, Place, nesting_limit, first_place, place_after, text_of}

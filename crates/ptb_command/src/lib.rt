@@ -26,7 +26,7 @@ mod fault_words;
 mod location;
 mod operation;
 mod pending_output;
-mod reads;
+mod command_word;
 mod registers;
 mod saved_registers;
 mod saved_stack;

@@ -1,7 +1,7 @@
 //! The machine of Tiny BASIC. The code of a program is made before it is run
 //! (`program_translation.rt`). A step is one command, done by this code; a run is all steps, and a
 //! program that is played once is a run over a reader and a writer. Commands that have short forms
-//! are done one after the other by them (`short_forms/advance.rt`).
+//! are done one after the other by them (`short_forms/short_run.rt`).
 //!
 //! It depends on `ptb_command`, `ptb_devices`, `ptb_expr`, `ptb_answers`, `ptb_text`,
 //! `itoa`, `thiserror` and `rand_pcg`. The crate above may rely on `Machine::step` (one

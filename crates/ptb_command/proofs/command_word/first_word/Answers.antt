@@ -2,7 +2,7 @@
 use Rattle.std.proofs.Common.{refl}
 use Rattle.ptb_text.specs.declared.word.Table.TheVariants.{Commands}
 use Rattle.ptb_command.proofs.FoundParts.{command_word, no_command_word}
-use Rattle.ptb_command.proofs.reads.first_word.Goals as goal
+use Rattle.ptb_command.proofs.command_word.first_word.Goals as goal
 
 pub returns-in-Some-clause-first : goal.returns-in-Some-clause-first
 returns-in-Some-clause-first c =

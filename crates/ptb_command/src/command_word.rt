@@ -3,7 +3,7 @@
 ghost use Rattle.std.specs.Prelude.{◌≡◌};
 ghost use Rattle.ptb_text.specs.Words.{IsCommand};
 ghost use Rattle.ptb_command.specs.Commands.{command_ends};
-ghost use Rattle.ptb_command.specs.Reads.{IsFirstWord};
+ghost use Rattle.ptb_command.specs.ReadCommands.{IsFirstWord};
 
 use ptb_text::{Cursor, Table, Word, finding_laws};
 
