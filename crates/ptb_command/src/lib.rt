@@ -45,7 +45,7 @@ pub use execution::context::Context;
 pub use execution::jumps::place_after_condition;
 pub use execution::plain_values::own_value;
 pub use execution::print::Output;
-pub use execution::turns::end_newest_turn;
+pub use execution::loop_turns::end_newest_turn;
 pub use fault_words::{fault_line, put_fault};
 pub use location::Location;
 pub use operation::{Destination, Expression, Literal, Operation, Prompt, Range};

@@ -60,7 +60,7 @@ fn add_step(store: &mut Store, item: &OpenLoop) -> bool
 /// Ends a turn of the newest loop; whether its next turn begins. Otherwise the loop is over and closed.
 #[inline(always)]
 pub fn end_newest_turn(store: &mut Store, stack: &mut Stack, item: &OpenLoop) -> bool
-    ensures turns { (m : Configuration) (p : Statements) (q : Place) (t : List ℕ) (i : ℕ)
+    ensures loop_turn { (m : Configuration) (p : Statements) (q : Place) (t : List ℕ) (i : ℕ)
         (d : Devices) (next : Location) (os : List Open) → Begun p q next.statement t NextKw i →
         IsNext t i item.now.letter next.offset →
         ClosesNewer item.now.letter os stack.old (Some item.now) →
@@ -92,7 +92,7 @@ pub(crate) fn end_turn(
     stack: &mut Stack,
     letter: Letter,
 ) -> Option<Option<Location>>
-    ensures turns { IfSome result (λ to. (m : Configuration) (p : Statements) (q : Place)
+    ensures loop_turn { IfSome result (λ to. (m : Configuration) (p : Statements) (q : Place)
         (t : List ℕ) (i : ℕ) (d : Devices) (next : Location) → Begun p q next.statement t NextKw i →
         IsNext t i letter next.offset →
         Refines p (record m { cells = store.old; stack = stack.old })

@@ -4,7 +4,7 @@ use Rattle.std.proofs.lemmas.Int.{ints}
 use Rattle.ptb_command.specs.Loops.{loop_of_open}
 use Rattle.ptb_command.specs.State.{Place}
 use Rattle.ptb_command.proofs.Loops.{sum_bounds, turn_added, last_added}
-use Rattle.ptb_command.proofs.execution.turns.add_step.Goals as goal
+use Rattle.ptb_command.proofs.execution.loop_turns.add_step.Goals as goal
 
 some_place : Place
 some_place = record { number = 0; index = 0 }
