@@ -8,7 +8,7 @@ ghost use Rattle.ptb_text.specs.Device.{device_inner};
 ghost use Rattle.ptb.specs.Sources.{MayOpen, open_note, kept_inner};
 
 use crate::progress::{ProgressLine, Progressing, Shown};
-use crate::readers::{Source, ErrorKeeping};
+use crate::readers::{ErrorKeeping, Source};
 use crate::task::Programs;
 use crate::terminal::{Keyboard, TerminalWriter, Terminals, Typed};
 use ptb_serve::{FlushingWriter, Note};
@@ -60,7 +60,9 @@ pub struct Console<'a, R> {
 pub type InputLines<'a, R> = Device<ErrorKeeping<'a, Keyboard<'a, <R as Input>::Reader>>>;
 
 /// The text of a program.
-pub type ProgramText<'a, R> = Device<ErrorKeeping<'a, Source<<R as Files>::File, <R as Input>::Reader>>>;
+pub type ProgramText<'a, R> = Device<
+    ErrorKeeping<'a, Source<<R as Files>::File, <R as Input>::Reader>>,
+>;
 
 /// What a request writes to.
 pub type ReplyWriter<'a, R> = Progressing<

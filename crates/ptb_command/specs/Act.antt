@@ -104,7 +104,7 @@ input_action said x prompt (l ∷ ls) =
     and_then (ask_for said x prompt) (λ at.
     and_then (take_line l ls) (λ _.
     and_then (evaluation (λ c. value c (item_of (expression l 0))))
-        (store_or_again at (input_action said x prompt ls))))
+    (store_or_again at (input_action said x prompt ls))))
 
 -- over the lines that the state has left
 abbrev pub item_action : List ℕ → Tree → List ℕ → Action (Unit {0})

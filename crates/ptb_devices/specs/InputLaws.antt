@@ -262,4 +262,4 @@ pub ReadsOn_more : (m n o : InputNow) (xs ys : List (List ℕ)) → ReadsOn (mis
     → ReadsOn (missed_in o.state) n ys o → ReadsOn (missed_in o.state) m (xs ++ ys) o
 ReadsOn_more m n o xs ys first second =
     ReadsOn_then (missed_in n.state) (missed_in o.state) (missed_in o.state) m n o xs ys first second second.asks
-        (omega arith)
+    (omega arith)

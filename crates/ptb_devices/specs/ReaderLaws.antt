@@ -11,8 +11,11 @@ use Rattle.ptb_devices.specs.Readers.{line_input, input_of, GivesFrom}
 module _ {R : Type 0} (remaining : R → Option (List ℕ)) (given failures : R → ℕ) where
   pub GivesFrom_none : (s : ReaderLines R) → GivesFrom remaining given failures s [] s
   GivesFrom_none s =
-      record { same_borrow = refl; reads = ReadsOn_none (missed_in (line_input s))
-          (input_of remaining given failures s) }
+      record {
+        same_borrow = refl;
+        reads = ReadsOn_none (missed_in (line_input s))
+            (input_of remaining given failures s);
+      }
 
   pub GivesFrom_more : (s t u : ReaderLines R) (xs ys : List (List ℕ)) → GivesFrom remaining given failures s xs t
       → GivesFrom remaining given failures t ys u → GivesFrom remaining given failures s (xs ++ ys) u

@@ -133,7 +133,7 @@ ends_cut kept c h k x within =
     let same : take (k + 1) (marked_items kept) ≡ take (k + 1) (marked_items (take c kept)) =
     sym (ap (take (k + 1)) (items_cut kept c) ∙ take_take (k + 1) c (marked_items kept) (omega (arith, in_cut))) in
     ap (λ (z : KeptItem). z.end) (get_or-take c kept k x in_cut) ∙ h k x in_kept
-        ∙ ap (λ z. length (header_prefix z)) same
+    ∙ ap (λ z. length (header_prefix z)) same
 
 items_push : (kept : List KeptItem) (e : KeptItem)
     → marked_items (kept ++ e ∷ []) ≡ marked_items kept ++ marked_of e ∷ []

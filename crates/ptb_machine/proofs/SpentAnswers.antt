@@ -86,7 +86,7 @@ pub evaluation_then : {A B : Type 0} (m : Cells → Work A) (next : Result A Fau
     → Budget (and_then (evaluation m) next S) (k + j) left
 evaluation_then m next S k j left reads each =
     same_budget (and_then (evaluation m) next S) (λ a. go_on (map_outcome (λ r. r) (λ _. S) (m S.cells a))
-        (λ r. next r S))
+    (λ r. next r S))
     (k + j) left (λ a. same (m S.cells a))
     (then_budget _ (λ r. next r S) (k + j) (λ _. j) left
     (map_budget (λ r. r) (λ _. S) (m S.cells) (k + j) (λ _. j) (reader_budget (m S.cells) k j reads)) each)

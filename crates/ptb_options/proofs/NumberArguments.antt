@@ -93,7 +93,7 @@ module _ (arguments : List (List ℕ)) (i : ℕ) (argument : List ℕ) (found : 
     before_more : (j : ℕ) → j < i + 1 → 1 ≤ j → slice_get arguments j ≢ Some dashes
     before_more =
         below_more (λ (j : ℕ). 1 ≤ j → slice_get arguments j ≢ Some dashes) i
-            (λ j below low. (passed j below low).other)
+        (λ j below low. (passed j below low).other)
         (λ (_ : 1 ≤ i). other)
 
     -- and gives no wrong value, so that one more is skipped

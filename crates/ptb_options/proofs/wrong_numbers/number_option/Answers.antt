@@ -28,4 +28,4 @@ returns-then-is_named-clause-some c =
 pub returns-clause-none : goal.returns-clause-none
 returns-clause-none c =
     λ _. unnamed_all c.args.argument.now c.loop-listed.listed-index c.loop-listed-test.false
-        c.loop-listed.invariant.unnamed
+    c.loop-listed.invariant.unnamed

@@ -28,7 +28,7 @@ returns-in_ok-number_option-in-Some-clause-some c =
 pub returns-in_ok-number_option-in-Some-clause-none : goal.returns-in_ok-number_option-in-Some-clause-none
 returns-in_ok-number_option-in-Some-clause-none c = λ none.
     accepted_after c.args.argument.now (option_copied c.args.next) c.in-Some.name c.in-Some.value
-        c.in-Some.ensures.cases
+    c.in-Some.ensures.cases
     c.in_ok-number_option-in-Some.field-0 c.in_ok-number_option-in-Some.ensures.some
     (c.wrong_for.ensures.none none)
 

@@ -18,7 +18,7 @@ plans-smaller g c =
     let i = l.invariant in
     less_there s.player l.self.stage.player s.devices.source.lines l.self.stage.devices.source.lines s.rules
     l.self.stage.rules (waiting_plays l.self.work) (waiting_plays c.next.new.self)
-        (waiting_plays c.settle.new.self.work)
+    (waiting_plays c.settle.new.self.work)
     (planned c.next.new.self.state c.in-Some.plan) i.player i.lines i.rules c.in-Some.ensures.some
     c.in_ok-settle.ensures.less
 

@@ -122,7 +122,7 @@ answers-preserved-else-branch g c =
     let stored = (goal.at.answers-preserved-else-branch g c).After-store_answer in
     let was = c.answers.invariant in
     let kept = missed_same g.L.LineSource.missed _ _ _ (ap (λ k. k.now) c.request_line.ensures.same.source)
-        was.missed in
+    was.missed in
     record {
       width = c.store_answer.ensures.width ∙ was.width;
       same = borrows_lent was.same c.request_line.ensures.same
@@ -329,7 +329,7 @@ answers-preserved g c =
     let earlier = goal.at.answers-preserved g c in
     let stored = earlier.After-store_answer-in_default in
     let kept = missed_same g.L.LineSource.missed _ _ _ (ap (λ k. k.now) c.request_line.ensures.same.source)
-        was.missed in
+    was.missed in
     let before = missed_same g.L.LineSource.missed c.args.io.now.source.now _ c.flush.new.self.source.now
     (ap (λ k. k.now) c.flush.ensures.same.source) (omega (arith, kept, c.take_ready.follows.holds-at-none.1)) in
     record {
