@@ -1,5 +1,6 @@
 -- This file answers what is left to prove of `PendingOutput::put`.
 use Rattle.std.proofs.Common.{refl}
+use Rattle.ptb_command.specs.declared.stop.CommandStop.TheVariants as stops
 use Rattle.ptb_command.specs.Devices.{screen_state, with_screen}
 use Rattle.ptb_command.specs.Stops.{as_stop}
 use Rattle.ptb_command.specs.Traces.{trace}
@@ -15,8 +16,9 @@ returns-then-try_append g c d cells =
 -- there was no room
 pub returns-in_err-flush : goal.returns-in_err-flush
 returns-in_err-flush g c d cells =
+    let stop = stops.Device c.in_err-flush.field-0.0 in
     shown_err _ _ _ _ _ c.from_residual.ensures.1
-    (unflushed _ _ _ _ _ _ c.flush.ensures.empty _
+    (unflushed _ _ _ _ _ _ c.flush.ensures.empty stop
     (rw (c.if-try_append.ensures.full refl) at (c.in_err-flush.ensures.comes d cells)))
 
 pub returns-then-try_append-2 : goal.returns-then-try_append-2
