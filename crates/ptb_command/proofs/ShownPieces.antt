@@ -1,6 +1,6 @@
 -- This file proves the result of showing bytes in pieces.
 -- Main lemmas: `piece_shown`, `piece_fails` and `pieces_shown`.
-use Rattle.std.proofs.Common.{◌≡◌, Bool, false, List, [], ◌∷◌, ◌++◌, ℕ, ◌+◌, ◌<◌, ◌≤◌, get_or, length, take, drop}
+use Rattle.std.proofs.Common.{◌≡◌, Bool, List, [], ◌∷◌, ◌++◌, ℕ, ◌+◌, ◌<◌, ◌≤◌, get_or, length, take, drop}
 use Rattle.std.proofs.Common.{Result, Ok, Err, refl, sym, ap, subst, ◌∙◌, append-nil}
 use Rattle.std.proofs.lemmas.List.{take-append-drop, take_all, take_more}
 use Rattle.std.proofs.lemmas.List.Concat.{flat_map-append}
@@ -9,11 +9,11 @@ use Rattle.std.specs.List.{flat_map}
 use Rattle.std.specs.Result.{IsErrAnd}
 use Rattle.ptb_expr.specs.Store.{Cells}
 use Rattle.ptb_text.specs.declared.device_fault.DeviceFault.{DeviceFault}
-use Rattle.ptb_text.specs.declared.device_fault.DeviceFault.TheVariants as faults
+use Rattle.ptb_command.specs.declared.stop.CommandStop.TheVariants as stops
 use Rattle.ptb_command.specs.Actions.{goes_on, show}
 use Rattle.ptb_command.specs.Devices.{Devices, nothing_refused}
 use Rattle.ptb_command.specs.Traces.{Trace, trace, with_pending}
-use Rattle.ptb_command.specs.Stops.{stop_of_device, as_stop, still_shows, Comes}
+use Rattle.ptb_command.specs.Stops.{as_stop, Comes}
 use Rattle.ptb_command.specs.ShowResults.{IsShown}
 use Rattle.ptb_command.proofs.GatheredBytes.{unfinished}
 use Rattle.ptb_command.proofs.Pieces.{first_stops, second_comes}
@@ -25,13 +25,6 @@ pub shown_err : (o n : Trace) (bytes : List ℕ) (r : Result (Unit {0}) DeviceFa
 shown_err o n bytes r e k s =
     let q = err_from_is_err_and r k in
     subst (λ (x : Result (Unit {0}) DeviceFault). IsShown o n bytes x) (sym (q.1 ∙ ap Err q.2)) s
-
--- where a device broke, what was gathered isn't shown
-device_drops : (e : DeviceFault) → still_shows {X = Unit {0}} (Err (stop_of_device e)) ≡ false
-device_drops faults.Read = refl
-device_drops faults.TooLong = refl
-device_drops faults.Write = refl
-device_drops faults.Memory = refl
 
 -- ---- in two pieces
 
@@ -45,8 +38,8 @@ pub first_fails : (o : Trace) (d : Devices) (fresh : Bool) (cells : Cells) (pend
     → IsShown o (with_pending pending (trace d fresh cells)) xs (Err e)
     → IsShown o (trace d fresh cells) (xs ++ ys) (Err e)
 first_fails o d fresh cells pending xs ys e h =
-    first_stops xs ys nothing_refused o (trace d fresh cells) (stop_of_device e)
-    (unfinished nothing_refused o d fresh cells pending (show xs) goes_on (Err (stop_of_device e)) (device_drops e) h)
+    first_stops xs ys nothing_refused o (trace d fresh cells) (stops.Device e)
+    (unfinished nothing_refused o d fresh cells pending (show xs) goes_on (Err (stops.Device e)) refl h)
 
 -- ---- one piece after the other, of which i are done
 

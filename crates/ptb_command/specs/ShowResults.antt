@@ -3,7 +3,6 @@
 --     IsShown o n bytes result     from trace o to trace n, the bytes were shown, or why they were not
 use Rattle.std.specs.Prelude.{ℕ, List, Result}
 use Rattle.ptb_text.specs.declared.device_fault.DeviceFault.{DeviceFault}
-use Rattle.ptb_command.specs.declared.stop.CommandStop.TheVariants as stops
 use Rattle.ptb_command.specs.Actions.{goes_on, show}
 use Rattle.ptb_command.specs.Devices.{nothing_refused}
 use Rattle.ptb_command.specs.Traces.{Trace}
