@@ -19,7 +19,7 @@ cat >"$room/crates/parts/src/main.rt" <<'END'
 // This file evaluates expressions and loads a text, again and again, and prints the time of each.
 #![tactic(auto)]
 
-use ptb_expr::{Listed, Steps, Stop, Store, evaluate_in};
+use ptb_expr::{Listed, Stop, Store, evaluate};
 use ptb_text::{Cursor, Device, Letter, load};
 use std::io;
 use std::time::Instant;
@@ -32,16 +32,15 @@ const MIXED_LINES: u32 = 37_000;
 
 const DOTS: &[u8] = b"................................................";
 
-// The values of an expression, added up over all turns. A room is lent, as INPUT has one.
+// The values of an expression, added up over all turns.
 fn sum(text: &[u8], store: &Store) -> Result<i64, Stop> {
     if text.len() > 255 {
         return Ok(0);
     }
     let mut sum: i64 = 0;
-    let mut room = Steps::new();
     for _ in 0..TURNS {
         let mut cursor = Cursor::new(text, 0);
-        let value = evaluate_in(&mut cursor, store, &mut Listed::new(&[]), &mut room)?;
+        let value = evaluate(&mut cursor, store, &mut Listed::new(&[]))?;
         sum = sum.wrapping_add(i64::from(value));
     }
     Ok(sum)

@@ -15,6 +15,7 @@ mod TreeSteps
 mod WrittenTrees
 mod PlainSteps
 mod AddedSteps
+mod MadeValues
 mod ReadParts
 mod Starts
 mod Runs

@@ -2,7 +2,7 @@
 -- Main lemmas: `number_alone` and `number_alone_spelled`.
 use Rattle.std.proofs.Common.{◌≡◌, ℕ, ℤ, ◌+◌, ◌≤◌, ◌∙◌, Bool, true, false, List, refl, ap, eqb, leb}
 use Rattle.std.proofs.Common.{sym, subst, length, Option, Some, None, arith}
-use Rattle.std.specs.Prelude.{IsFalse, IsNone, ◌&&◌, if◌then◌else◌, option_map}
+use Rattle.std.specs.Prelude.{IsFalse, IsNone, ◌&&◌, if◌then◌else◌}
 use Rattle.std.proofs.lemmas.Bool.{ne_eqb, and_parts, false≢true, leb-true, lt-leb}
 use Rattle.ptb_text.specs.declared.word.Table.TheVariants.{Functions}
 use Rattle.ptb_text.specs.Digits.{is_digit}

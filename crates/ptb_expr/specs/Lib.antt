@@ -14,7 +14,8 @@ pub use Rattle.ptb_text.specs.Words
 pub use Rattle.ptb_text.specs.FoundParts
 pub mod TreeSteps
 pub mod Stops
-pub mod ReadSteps
+pub mod Builders
+pub mod ReadTrees
 pub mod Starts
 pub mod Translation
 pub mod ShortValues

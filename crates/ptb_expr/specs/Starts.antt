@@ -1,64 +1,55 @@
 -- This file defines what is before a part of the grammar, or alone in its place.
 -- Main definition: `IsBefore`.
 --     IsBefore t unary inner outer i j     between i and j is what makes `outer` of the part `inner` after it
---     IsFirst before, IsLater before        whether that is before the first product of a sum, or before a later one
---     sign_of before                       what is done with the first
---     operator_of before                   the operator before a later one
---     with_before before mark xs           the steps xs of a product with what is before it
---     room_before before                   how many steps that takes at most
+--     IsFirst before                       this can be before the first product of a sum
+--     sign_of before                       what is done with the first product; `Itself` for the others
+--     room_before before                   how much room that needs
+--     node_before before x y m             the tree of the product y with what is before it; x is left of an operator
+--     KeepsBefore keeps before s t x       from s to t the tree x was kept, where an operator is before the product
 --     BeginsFactor t start i j             between i and j is what a factor begins with
 --     start_room start                     how much room is needed for it
-use Rattle.std.specs.Prelude.{ℕ, List, ◌++◌}
-use Rattle.ptb_expr.specs.declared.operator.ProductSign.{ProductSign}
-use Rattle.ptb_expr.specs.declared.operator.ProductSign.TheVariants as signs
-use Rattle.ptb_expr.specs.declared.operator.Operator.{Operator}
-use Rattle.ptb_expr.specs.declared.operator.Operator.TheVariants as operators
-use Rattle.ptb_expr.specs.declared.step.Step.{Step}
-use Rattle.ptb_expr.specs.declared.step.Unary.{Unary}
-use Rattle.ptb_expr.specs.declared.step.Unary.TheVariants.{Itself, Negate}
+use Rattle.std.specs.Prelude.{◌≡◌, ℕ, List}
+use Rattle.ptb_expr.specs.declared.builder.Unary.{Unary}
+use Rattle.ptb_expr.specs.declared.builder.Unary.TheVariants.{Itself, Negate}
+use Rattle.ptb_expr.specs.declared.reader.Before.{Before}
+use Rattle.ptb_expr.specs.declared.reader.Before.TheVariants as befores
 use Rattle.ptb_expr.specs.declared.fault.FaultKind.TheVariants.{How}
 use Rattle.ptb_expr.specs.declared.reader.Start.{Start}
 use Rattle.ptb_expr.specs.declared.reader.Start.TheVariants as starts
-use Rattle.ptb_expr.specs.ReadSteps.{node_of, room_of, unary_steps}
+use Rattle.ptb_expr.specs.Builders.{node_of, room_of}
 use Rattle.ptb_expr.specs.Reading.{Reading, Whole, Malformed, node_over}
 use Rattle.ptb_expr.specs.Spells.{Production, Factor, Paren, Spells}
-use Rattle.ptb_expr.specs.TreeSteps.{with_operator}
-use Rattle.ptb_expr.specs.Tree.{Tree, Num, Var, Size, Bad}
+use Rattle.ptb_expr.specs.Tree.{Tree, Num, Var, Size, Neg, Bin, Bad}
 
 abbrev pub IsBefore : List ℕ → Unary → Production → Production → ℕ → ℕ → Type 0
 IsBefore t unary inner outer i j =
     (r : Reading Tree) → Spells t inner j r → Spells t outer i (node_over (node_of unary) j r)
 
--- the first product has no operator before it, and each later one has
-abbrev pub IsFirst : ProductSign → Type 0
-IsFirst signs.Nothing = Unit {0}
-IsFirst signs.Sign = Unit {0}
-IsFirst _ = ⊥
-
-abbrev pub IsLater : ProductSign → Type 0
-IsLater signs.Plus = Unit {0}
-IsLater signs.Minus = Unit {0}
-IsLater _ = ⊥
-
 -- what is done with the first product
-abbrev pub sign_of : ProductSign → Unary
-sign_of signs.Sign = Negate
+abbrev pub sign_of : {P : Type 0} → Before P → Unary
+sign_of befores.Minus = Negate
 sign_of _ = Itself
 
--- the operator before a later one
-abbrev pub operator_of : ProductSign → Operator
-operator_of signs.Minus = operators.Minus
-operator_of _ = operators.Plus
-
-abbrev pub with_before : ProductSign → ℕ → List Step → List Step
-with_before signs.Plus m xs = with_operator operators.Plus m xs
-with_before signs.Minus m xs = with_operator operators.Minus m xs
-with_before signs.Nothing m xs = xs
-with_before signs.Sign m xs = xs ++ unary_steps Negate m
-
-abbrev pub room_before : ProductSign → ℕ
-room_before signs.Nothing = 0
+abbrev pub room_before : {P : Type 0} → Before P → ℕ
+room_before befores.Nothing = 0
 room_before _ = 1
+
+-- the first product has no operator before it
+abbrev pub IsFirst : {P : Type 0} → Before P → Type 0
+IsFirst befores.Nothing = Unit {0}
+IsFirst befores.Minus = Unit {0}
+IsFirst (befores.Operator op left) = ⊥
+
+abbrev pub node_before : {P : Type 0} → Before P → Tree → Tree → ℕ → Tree
+node_before befores.Nothing x y m = y
+node_before befores.Minus x y m = Neg y m
+node_before (befores.Operator op left) x y m = Bin op x y m
+
+-- between two states of what the reader makes
+abbrev pub KeepsBefore : {S P : Type 0} → (S → S → P → Tree → Type 0) → Before P → S → S → Tree → Type 0
+KeepsBefore keeps befores.Nothing s t x = t ≡ s
+KeepsBefore keeps befores.Minus s t x = t ≡ s
+KeepsBefore keeps (befores.Operator op left) s t x = keeps s t left x
 
 abbrev pub BeginsFactor : List ℕ → Start → ℕ → ℕ → Type 0
 BeginsFactor t (starts.Number v) i j = Spells t Factor i (Whole (Num v) j)

@@ -14,7 +14,7 @@ use crate::pending_output::PendingOutput;
 use crate::stop::CommandStop;
 use ptb_answers::Chooser;
 use ptb_devices::{LineSource, Screen};
-use ptb_expr::{Step, Steps, Store};
+use ptb_expr::{Step, Store};
 
 /// The width of the values at the start of each command.
 pub const FIRST_WIDTH: u8 = 6;
@@ -27,8 +27,6 @@ pub struct Output {
     pub pending: PendingOutput,
     /// The width.
     pub width: u8,
-    /// A room for the steps of an input line.
-    pub(crate) room: Steps,
 }
 
 impl Output {
@@ -40,7 +38,6 @@ impl Output {
         Output {
             pending: PendingOutput::new(),
             width: FIRST_WIDTH,
-            room: Steps::new(),
         }
     }
 

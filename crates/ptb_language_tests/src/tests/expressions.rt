@@ -7,8 +7,7 @@ use crate::tests::shared::{Row, expect_rows, expect_same, table};
 use ptb_explore::Asked;
 use ptb_expr::{
     Chooser, Fault, FaultKind, Listed, Operator, Pause, SavedStore, Seeded, ShortValue, Step,
-    Steps, Stop, Store, Target, answer_to, evaluate, evaluate_in, plain_value, read_value,
-    single_value, target,
+    Steps, Stop, Store, Target, answer_to, evaluate, plain_value, read_value, single_value, target,
 };
 use ptb_text::{Cursor, Letter};
 use rand_core::utils::NextWord;
@@ -175,8 +174,7 @@ const LONG_TEXTS: &[Expression] = table! { Expression:
     (&[b'0'; 200], &[], Due::Value(0, 200), 0),
 };
 
-// Whether 126 parentheses around 1 are worth 1, also in a room that is lent, and 253 that are open
-// have no value there.
+// Whether 126 parentheses around 1 are worth 1, and 253 that are open have no value.
 fn are_nested_worth(store: &Store) -> bool {
     let mut nested = [b'('; 253];
     nested[126] = b'1';
@@ -184,8 +182,7 @@ fn are_nested_worth(store: &Store) -> bool {
         nested[at] = b')';
     }
     is_worth(store, &nested, &[], Due::Value(1, 253), 0)
-        && lent_value(store, &nested) == Some(1)
-        && lent_value(store, &[b'('; 253]).is_none()
+        && value_there(store, &[b'('; 253]).is_none()
 }
 
 // A bound, the answers of a list, and the answer to a question with this bound, without an expression.
@@ -704,34 +701,19 @@ fn expression_steps_of(text: &[u8]) -> Option<(Steps, usize)> {
     Some((steps, cursor.place()))
 }
 
-// The value of the expression at the front of a text in this room. Nothing is answered.
-fn value_in(store: &Store, text: &[u8], room: &mut Steps) -> Option<i16> {
+// The value of the expression at the front of a text. Nothing is answered.
+fn value_there(store: &Store, text: &[u8]) -> Option<i16> {
     if text.len() > 255 {
         return None;
     }
-    evaluate_in(
-        &mut Cursor::new(text, 0),
-        store,
-        &mut Listed::new(&[]),
-        room,
-    )
-    .ok()
-}
-
-// The same in a room that is lent, where another expression was before.
-fn lent_value(store: &Store, text: &[u8]) -> Option<i16> {
-    let mut room = Steps::new();
-    match value_in(store, b"A-(A-(A-(A-(A-(A-0)))))+J/7*7", &mut room) {
-        Some(_) => value_in(store, text, &mut room),
-        None => Some(i16::MIN),
-    }
+    evaluate(&mut Cursor::new(text, 0), store, &mut Listed::new(&[])).ok()
 }
 
 // A text, and the value of its expression and the place after it, if it has a plain one: without a
 // fault and without a question.
 struct Plain(&'static [u8], Option<(i16, usize)>);
 
-// An expression that asks nothing and has a value has it plainly, in a room that is lent, and otherwise, too.
+// An expression that asks nothing and has a value has it by `plain_value` and by `evaluate`.
 impl Row<Store> for Plain {
     fn holds(&self, store: &Store) -> bool {
         let Plain(text, wanted) = *self;
@@ -739,7 +721,7 @@ impl Row<Store> for Plain {
             return false;
         };
         let plainly = plain_value(steps.as_slice(), store);
-        if plainly != lent_value(store, text) {
+        if plainly != value_there(store, text) {
             return false;
         }
         match wanted {

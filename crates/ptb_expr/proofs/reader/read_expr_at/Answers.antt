@@ -1,36 +1,40 @@
 -- This file answers what is left to prove of an expression at a place of a text.
 use Rattle.std.proofs.Common.{◌∙◌, ap, refl}
-use Rattle.ptb_expr.specs.Spells as spells
-use Rattle.ptb_expr.proofs.ReadParts.{sum_before, sum_alone, comparison_read, comparison_fails}
+use Rattle.ptb_expr.specs.Operators.{comparison}
+use Rattle.ptb_expr.proofs.Parts.{at_text}
+use Rattle.ptb_expr.proofs.ReadParts.{sum_alone, sum_fails, comparison_read, comparison_fails}
 use Rattle.ptb_expr.proofs.reader.read_expr_at.Goals as goal
 
-pub returns-in_err-read_sum-clause-fails : goal.returns-in_err-read_sum-clause-fails
-returns-in_err-read_sum-clause-fails c = λ none t same.
-    let x = rw (ap (λ s. s.place) c.new-cursor.ensures) at
-    (c.in_err-read_sum.ensures.fails refl t (ap (λ s. s.text) c.new-cursor.ensures ∙ same)) in
-    record { tree = x.tree; spelled = spells.sum_malformed x.spelled; cut = x.cut }
+pub returns-in_err-sum-clause-fails : goal.returns-in_err-sum-clause-fails
+returns-in_err-sum-clause-fails g c = λ none able t same. sum_fails t _ _
+    (rw (ap (λ s. s.place) c.new-cursor.ensures) at
+    (c.in_err-sum.ensures.fails refl able t (ap (λ s. s.text) c.new-cursor.ensures ∙ same)))
 
 pub returns-in_default-clause-reads : goal.returns-in_default-clause-reads
-returns-in_default-clause-reads c = λ t same.
+returns-in_default-clause-reads g c = λ t same.
     let text = ap (λ s. s.text) c.new-cursor.ensures ∙ same in
-    let x = rw (ap (λ s. s.place) c.new-cursor.ensures) at (c.in_ok-read_sum.ensures.reads refl t text) in
-    rw (c.mark.ensures, c.in_default.ensures.absent refl)
-    (sum_alone t _ _ _ _ (sum_before t _ _ _ _ text c.in_ok-read_sum.ensures.text x c.in_default.ensures.value))
+    let x = rw (ap (λ s. s.place) c.new-cursor.ensures) at (c.in_ok-sum.ensures.reads t text) in
+    rw (c.mark.ensures, c.in_default.ensures.absent refl) (sum_alone t _ _ _ x
+    (at_text (λ u. comparison u c.read_sum.new.cursor.place) (c.in_ok-sum.ensures.text ∙ text)
+    c.in_default.ensures.value))
 
-pub returns-in_err-read_sum-2-clause-fails : goal.returns-in_err-read_sum-2-clause-fails
-returns-in_err-read_sum-2-clause-fails c = λ none t same.
+pub returns-in_err-right-clause-fails : goal.returns-in_err-right-clause-fails
+returns-in_err-right-clause-fails g c = λ none able t same.
     let text = ap (λ s. s.text) c.new-cursor.ensures ∙ same in
-    let x = rw (ap (λ s. s.place) c.new-cursor.ensures) at (c.in_ok-read_sum.ensures.reads refl t text) in
-    let y = c.in_err-read_sum-2.ensures.fails refl t (c.in-Some.ensures.text ∙ c.in_ok-read_sum.ensures.text ∙ text) in
-    comparison_fails t _ _ _ _ _ _ _
-    (sum_before t _ _ _ _ text c.in_ok-read_sum.ensures.text x c.in-Some.ensures.value) y
+    let x = rw (ap (λ s. s.place) c.new-cursor.ensures) at (c.in_ok-sum.ensures.reads t text) in
+    let sum = c.in_ok-sum.ensures.text ∙ text in
+    comparison_fails t _ _ _ x _ _ _ _
+    (at_text (λ u. comparison u c.read_sum.new.cursor.place) sum c.in-Some.ensures.value)
+    (c.in_err-right.ensures.fails refl able t (c.in-Some.ensures.text ∙ sum))
+    (λ x y made broken. c.malformed_laws.ensures.right _ _ _ _ _ x y _ (c.keep-left.ensures.kept _ x made) broken)
 
 pub returns-clause-reads : goal.returns-clause-reads
-returns-clause-reads c = λ t same.
+returns-clause-reads g c = λ t same.
     let text = ap (λ s. s.text) c.new-cursor.ensures ∙ same in
-    let x = rw (ap (λ s. s.place) c.new-cursor.ensures) at (c.in_ok-read_sum.ensures.reads refl t text) in
-    let y = c.in_ok-read_sum-2.ensures.reads refl t (c.in-Some.ensures.text ∙ c.in_ok-read_sum.ensures.text ∙ text) in
-    rw c.mark-end.ensures
-    (comparison_read t _ _ _ _ _ _ _ _ _
-    (sum_before t _ _ _ _ text c.in_ok-read_sum.ensures.text x c.in-Some.ensures.value) y
-    (rw c.mark-end.ensures at c.join_operator.ensures.added))
+    let x = rw (ap (λ s. s.place) c.new-cursor.ensures) at (c.in_ok-sum.ensures.reads t text) in
+    let sum = c.in_ok-sum.ensures.text ∙ text in
+    rw c.mark-end.ensures (comparison_read t _ _ _ x _ _ _ _
+    (at_text (λ u. comparison u c.read_sum.new.cursor.place) sum c.in-Some.ensures.value) _
+    (c.in_ok-right.ensures.reads t (c.in-Some.ensures.text ∙ sum))
+    (λ x y made next. rw c.mark-end.ensures at
+    (c.in_ok-made.ensures.made _ _ x y (c.keep-left.ensures.kept _ x made) next)))

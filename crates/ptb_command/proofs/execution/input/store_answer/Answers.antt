@@ -19,11 +19,11 @@ returns-in-Ok-clause-comes g c d fresh said x prompt =
     line_stored said x prompt c.args.target c.args.line.now c.in-Ok.value _
     (Ok (to_z w16 (of_z w16 c.in-Ok.value))) same (ap Ok same)
     (gathered o _ _ _ c.append.ensures) (gathered o _ _ _ c.append_many.ensures)
-    (line_values (g.C.Chooser.refused c.evaluate_in.new.chooser) c.args.line.now _ _ d fresh c.append_many.new.self _
+    (line_values (g.C.Chooser.refused c.evaluate.new.chooser) c.args.line.now _ _ d fresh c.append_many.new.self _
     c.in-Ok.value _ same
-    (subst (λ (s : CursorState). WorkComes (g.C.Chooser.refused c.evaluate_in.new.chooser)
+    (subst (λ (s : CursorState). WorkComes (g.C.Chooser.refused c.evaluate.new.chooser)
     (expression_value c.args.store.now s) (g.C.Chooser.choices c.args.chooser.now)
-    (g.C.Chooser.choices c.evaluate_in.new.chooser) (Ok c.in-Ok.value))
+    (g.C.Chooser.choices c.evaluate.new.chooser) (Ok c.in-Ok.value))
     c.new-cursor.ensures c.in-Ok.ensures.value.gives))
     (store_refines_part _ _ _ _ _ _ _ c.store_value.ensures)
 
@@ -35,13 +35,13 @@ returns-in-Err-Fault-clause-comes g c d fresh said x prompt =
     line_again said x prompt c.args.target c.args.line.now c.in-Err-Fault.fault _ (Err c.in-Err-Fault.fault)
     (rw c.in-Err-Fault.field-0-is at c.fault_line.ensures) refl
     (gathered o _ _ _ c.append.ensures) (gathered o _ _ _ c.append_many.ensures)
-    (line_faults (g.C.Chooser.refused c.evaluate_in.new.chooser) c.args.line.now _ _ d fresh c.append_many.new.self _
+    (line_faults (g.C.Chooser.refused c.evaluate.new.chooser) c.args.line.now _ _ d fresh c.append_many.new.self _
     c.in-Err-Fault.field-0 _ c.in-Err-Fault.field-0-is
-    (subst (λ (s : CursorState). WorkComes (g.C.Chooser.refused c.evaluate_in.new.chooser)
+    (subst (λ (s : CursorState). WorkComes (g.C.Chooser.refused c.evaluate.new.chooser)
     (expression_value c.args.store.now s) (g.C.Chooser.choices c.args.chooser.now)
-    (g.C.Chooser.choices c.evaluate_in.new.chooser) (Err c.in-Err-Fault.field-0))
+    (g.C.Chooser.choices c.evaluate.new.chooser) (Err c.in-Err-Fault.field-0))
     c.new-cursor.ensures c.in-Err-Fault.ensures.value.gives))
-    (gathered (trace (with_choices (g.C.Chooser.choices c.evaluate_in.new.chooser) d) fresh c.args.store.now) _ _ _
+    (gathered (trace (with_choices (g.C.Chooser.choices c.evaluate.new.chooser) d) fresh c.args.store.now) _ _ _
     c.append_many-in-Err-Fault.ensures)
 
 -- ---- its expression has no value yet
@@ -51,9 +51,9 @@ returns-in-Err-Pause-clause-comes g c d fresh said x prompt =
     let o = trace (with_choices (g.C.Chooser.choices c.args.chooser.now) d) fresh c.args.store.now in
     line_worth_stops said x prompt _ _ c.args.target c.args.line.now _
     (gathered o _ _ _ c.append.ensures) (gathered o _ _ _ c.append_many.ensures)
-    (line_pauses (g.C.Chooser.refused c.evaluate_in.new.chooser) c.args.line.now _ _ d fresh c.append_many.new.self _
+    (line_pauses (g.C.Chooser.refused c.evaluate.new.chooser) c.args.line.now _ _ d fresh c.append_many.new.self _
     c.in-Err-Pause.field-0 _ c.in-Err-Pause.field-0-is
-    (subst (λ (s : CursorState). WorkComes (g.C.Chooser.refused c.evaluate_in.new.chooser)
+    (subst (λ (s : CursorState). WorkComes (g.C.Chooser.refused c.evaluate.new.chooser)
     (expression_value c.args.store.now s) (g.C.Chooser.choices c.args.chooser.now)
-    (g.C.Chooser.choices c.evaluate_in.new.chooser) (Err c.in-Err-Pause.field-0))
+    (g.C.Chooser.choices c.evaluate.new.chooser) (Err c.in-Err-Pause.field-0))
     c.new-cursor.ensures c.in-Err-Pause.ensures.value.gives) _ (rw c.in-Err-Pause.field-0-is at c.from.ensures))
