@@ -1,5 +1,6 @@
 -- This file answers that the plan raises the last answer below its bound.
 use Rattle.std.proofs.Common.{rules, ◌≡◌, ◌+◌, ◌<◌, ◌≤◌, ◌++◌, ◌∷◌, [], ℕ, List, take, arith, ap, refl}
+use Rattle.std.proofs.lemmas.Grind.{common_steps}
 use Rattle.std.proofs.Common.{sym, subst, ◌∙◌, ℤ, pos, ◌+ℤ◌, FitsSigned, w16, to_z, of_z, get_or}
 use Rattle.std.proofs.Common.{length, slice_index_or}
 use Rattle.std.proofs.lemmas.Int.{ints}
@@ -87,3 +88,63 @@ returns-in_err-replace_plan-in-Some-clause-refused c =
     let has : HasPlan (answers_of c.args.prefix.now) c.args.position answers bounds =
     rw c.in-AtRun.is (take i answers ++ (slice_index_or answers i (pos 0) +ℤ pos 1) ∷ [], i, (place, refl)) in
     on_err_always _ has
+
+pub returns-in_err-replay-in-AtStart-clause-plan :
+    goal.returns-in_err-replay-in-AtStart-clause-plan
+returns-in_err-replay-in-AtStart-clause-plan c = search rules fits 50 depth 2
+
+pub returns-in_err-replay-in-AtStart-clause-bounds :
+    goal.returns-in_err-replay-in-AtStart-clause-bounds
+returns-in_err-replay-in-AtStart-clause-bounds c = search rules fits 50 depth 2
+
+pub returns-in_err-replay-in-AtStart-clause-fresh :
+    goal.returns-in_err-replay-in-AtStart-clause-fresh
+returns-in_err-replay-in-AtStart-clause-fresh c = search rules fits 50 depth 2
+
+pub offset_bounds-asked-i : goal.offset_bounds-asked-i
+offset_bounds-asked-i c = grind (arith, common_steps)
+
+pub bounds-asked-i : goal.bounds-asked-i
+bounds-asked-i c = grind (arith, common_steps)
+
+pub bounds-asked-i-in-Some : goal.bounds-asked-i-in-Some
+bounds-asked-i-in-Some c = grind (arith, common_steps)
+
+pub overflow_add-raised : goal.overflow_add-raised
+overflow_add-raised c = grind (arith, common_steps)
+
+pub overflow_add-i : goal.overflow_add-i
+overflow_add-i c = grind (arith, common_steps)
+
+pub slice_bounds-replace_plan-end : goal.slice_bounds-replace_plan-end
+slice_bounds-replace_plan-end c = grind (arith, common_steps)
+
+pub replace_plan-requires : goal.replace_plan-requires
+replace_plan-requires c = grind (arith, common_steps)
+
+pub returns-in_err-replace_plan-in-Some-clause-plan :
+    goal.returns-in_err-replace_plan-in-Some-clause-plan
+returns-in_err-replace_plan-in-Some-clause-plan c = search rules fits 50 depth 2
+
+pub returns-in_err-replace_plan-in-Some-clause-bounds :
+    goal.returns-in_err-replace_plan-in-Some-clause-bounds
+returns-in_err-replace_plan-in-Some-clause-bounds c = search rules fits 50 depth 2
+
+pub returns-in_err-replace_plan-in-Some-clause-fresh :
+    goal.returns-in_err-replace_plan-in-Some-clause-fresh
+returns-in_err-replace_plan-in-Some-clause-fresh c = search rules fits 50 depth 2
+
+pub returns-in_ok-replay-in-AtStart-clause-plan : goal.returns-in_ok-replay-in-AtStart-clause-plan
+returns-in_ok-replay-in-AtStart-clause-plan c = search rules fits 50 depth 2
+
+pub returns-in_ok-replay-in-AtStart-clause-bounds :
+    goal.returns-in_ok-replay-in-AtStart-clause-bounds
+returns-in_ok-replay-in-AtStart-clause-bounds c = search rules fits 50 depth 2
+
+pub returns-in_ok-replay-in-AtStart-clause-fresh :
+    goal.returns-in_ok-replay-in-AtStart-clause-fresh
+returns-in_ok-replay-in-AtStart-clause-fresh c = search rules fits 50 depth 2
+
+pub returns-in_ok-replace_plan-in-Some-clause-fresh :
+    goal.returns-in_ok-replace_plan-in-Some-clause-fresh
+returns-in_ok-replace_plan-in-Some-clause-fresh c = search rules fits 50 depth 2

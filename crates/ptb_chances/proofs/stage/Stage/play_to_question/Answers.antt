@@ -89,3 +89,66 @@ returns-in-Asks-clause-goes c = λ S h.
     let rest = a.lines_are ∙ ap (λ n. drop n c.args.self.now.devices.source.lines) (sym noted.taken) in
     let end = subst (λ (s : List ℕ). SameEnd s c.advance.new.self.before.shown.items) (sym a.text_is) noted.shown in
     gone_waits c.run_laws.ensures _ _ _ _ S _ _ _ _ _ _ a (c.commands.invariant.came S h) _ _ _ noted.machine rest end
+
+pub returns-in_err-advance-clause-player : goal.returns-in_err-advance-clause-player
+returns-in_err-advance-clause-player c = search rules fits 50 depth 2
+
+pub returns-in_err-advance-clause-rules : goal.returns-in_err-advance-clause-rules
+returns-in_err-advance-clause-rules c = search rules fits 50 depth 2
+
+pub returns-in_err-advance-clause-same_lines : goal.returns-in_err-advance-clause-same_lines
+returns-in_err-advance-clause-same_lines c = search rules fits 50 depth 2
+
+pub returns-in_err-advance-clause-goes : goal.returns-in_err-advance-clause-goes
+returns-in_err-advance-clause-goes c = search rules fits 50 depth 2
+
+pub returns-in_err-advance-clause-waits : goal.returns-in_err-advance-clause-waits
+returns-in_err-advance-clause-waits c = search rules fits 50 depth 2
+
+pub play_plan-requires-clause-unspent : goal.play_plan-requires-clause-unspent
+play_plan-requires-clause-unspent c = search rules fits 50 depth 2
+
+pub play_plan-requires-clause-within : goal.play_plan-requires-clause-within
+play_plan-requires-clause-within c = search rules fits 50 depth 2
+
+pub returns-in_err-ending-clause-player : goal.returns-in_err-ending-clause-player
+returns-in_err-ending-clause-player c = search rules fits 50 depth 2
+
+pub returns-in_err-ending-clause-rules : goal.returns-in_err-ending-clause-rules
+returns-in_err-ending-clause-rules c = search rules fits 50 depth 2
+
+pub returns-in_err-ending-clause-same_lines : goal.returns-in_err-ending-clause-same_lines
+returns-in_err-ending-clause-same_lines c = search rules fits 50 depth 2
+
+pub returns-in_err-ending-clause-goes : goal.returns-in_err-ending-clause-goes
+returns-in_err-ending-clause-goes c = search rules fits 50 depth 2
+
+pub returns-in_err-ending-clause-waits : goal.returns-in_err-ending-clause-waits
+returns-in_err-ending-clause-waits c = search rules fits 50 depth 2
+
+pub returns-in-Over-clause-player : goal.returns-in-Over-clause-player
+returns-in-Over-clause-player c = search rules fits 50 depth 2
+
+pub returns-in-Over-clause-rules : goal.returns-in-Over-clause-rules
+returns-in-Over-clause-rules c = search rules fits 50 depth 2
+
+pub returns-in-Over-clause-same_lines : goal.returns-in-Over-clause-same_lines
+returns-in-Over-clause-same_lines c = search rules fits 50 depth 2
+
+pub returns-in-Over-clause-waits : goal.returns-in-Over-clause-waits
+returns-in-Over-clause-waits c = search rules fits 50 depth 2
+
+pub returns-in-Asks-clause-player : goal.returns-in-Asks-clause-player
+returns-in-Asks-clause-player c = search rules fits 50 depth 2
+
+pub returns-in-Asks-clause-rules : goal.returns-in-Asks-clause-rules
+returns-in-Asks-clause-rules c = search rules fits 50 depth 2
+
+pub returns-in-Asks-clause-same_lines : goal.returns-in-Asks-clause-same_lines
+returns-in-Asks-clause-same_lines c = search rules fits 50 depth 2
+
+pub returns-in-Asks-clause-waits : goal.returns-in-Asks-clause-waits
+returns-in-Asks-clause-waits c = search rules fits 50 depth 2
+
+pub commands-smaller : goal.commands-smaller
+commands-smaller c = search rules fits 50 depth 2
