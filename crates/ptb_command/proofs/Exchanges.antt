@@ -6,32 +6,14 @@ use Rattle.std.proofs.Common.{inr, Bool}
 use Rattle.std.specs.Prelude.{IsTrue}
 use Rattle.std.specs.Io.KnownBytes.{Appends}
 use Rattle.ptb_text.specs.Device.{HasFailed}
-use Rattle.ptb_answers.specs.Outcome.{Answers}
-use Rattle.ptb_answers.specs.Choices.{Choices, with_answers, with_bounds}
+use Rattle.ptb_answers.specs.Choices.{with_answers}
 use Rattle.ptb_text.specs.declared.device_fault.DeviceFault.{DeviceFault}
 use Rattle.ptb_text.specs.declared.device_fault.DeviceFault.TheVariants as faults
 use Rattle.ptb_command.specs.Devices.{ScreenState, Devices, Exchange, no_exchange, both_exchanges}
 use Rattle.ptb_command.specs.Devices.{Shows, Exchanges, MayFollow, Refusal, Unanswered, Unread}
 use Rattle.ptb_command.specs.Devices.{HasNoMemory, HasBroken}
 use Rattle.ptb_answers.specs.declared.pause.Pause.TheVariants as pauses
-
--- ---- choices
-
-with_bounds_nil : (kept : Option (List ℤ)) → with_bounds [] kept ≡ kept
-with_bounds_nil None = refl
-with_bounds_nil (Some ks) = ap Some (append-nil ks)
-
-with_bounds_twice : (bs ds : List ℤ) (kept : Option (List ℤ))
-    → with_bounds ds (with_bounds bs kept) ≡ with_bounds (bs ++ ds) kept
-with_bounds_twice bs ds None = refl
-with_bounds_twice bs ds (Some ks) = ap Some (append_assoc ks bs ds)
-
-pub with_answers_nil : (c : Choices) → with_answers [] [] c ≡ c
-with_answers_nil c = rw (append-nil c.taken, with_bounds_nil c.kept) refl
-
-with_answers_twice : (ts us : Answers) (bs ds : List ℤ) (c : Choices)
-    → with_answers us ds (with_answers ts bs c) ≡ with_answers (ts ++ us) (bs ++ ds) c
-with_answers_twice ts us bs ds c = rw (append_assoc c.taken ts us, with_bounds_twice bs ds c.kept) refl
+use Rattle.ptb_expr.proofs.PublicLemmas.{with_answers_nil, with_answers_twice}
 
 -- ---- bytes and lines
 

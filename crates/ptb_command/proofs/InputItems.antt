@@ -43,7 +43,8 @@ use Rattle.ptb_command.specs.Traces.{Trace, trace, with_pending, still_pending, 
 use Rattle.ptb_command.specs.Stops.{stop_of, LacksLine, WantsLine, DeviceFails, Stops}
 use Rattle.ptb_command.specs.Stops.{RefinesPartTo, Comes}
 use Rattle.ptb_command.proofs.Effects.{takes_joined, ask_lines, input_part, input_takes}
-use Rattle.ptb_command.proofs.Exchanges.{shows_nothing, with_answers_nil}
+use Rattle.ptb_expr.proofs.PublicLemmas.{with_answers_nil}
+use Rattle.ptb_command.proofs.Exchanges.{shows_nothing}
 use Rattle.ptb_command.proofs.PartRefinement.{leaves_to, leaves_itself, after_nothing, once_nothing}
 use Rattle.ptb_command.proofs.PartRefinement.{freshens_nothing, refines_part_refl}
 use Rattle.ptb_command.proofs.PartRefinement.{refines_part_then}

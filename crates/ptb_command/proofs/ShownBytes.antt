@@ -30,7 +30,7 @@ use Rattle.ptb_command.specs.declared.stop.CommandStop.{CommandStop}
 use Rattle.ptb_command.specs.declared.stop.CommandStop.TheVariants as stops
 use Rattle.ptb_command.specs.Traces.{Trace, trace, fresh_after, RefinesPart}
 use Rattle.ptb_command.specs.Stops.{WantsLine, DeviceFails, Stops, RefinesPartTo, Comes}
-use Rattle.ptb_command.proofs.Exchanges.{with_answers_nil}
+use Rattle.ptb_expr.proofs.PublicLemmas.{with_answers_nil}
 use Rattle.ptb_command.proofs.PartRefinement.{leaves_itself, leaves_to, refines_part_refl}
 
 -- ---- fresh transcripts
