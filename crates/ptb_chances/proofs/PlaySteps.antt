@@ -1,13 +1,11 @@
 -- This file proves what the steps of a play result in, in each state that the machine represents.
 -- Main lemma: `step_plays`.
 use Rattle.std.proofs.Common.{◌≡◌, ℕ, ◌-◌, ◌≤◌, List, [], ◌∷◌, ◌++◌, zero, suc, true, false, Option}
-use Rattle.std.proofs.Common.{Some, None, Result, Ok, Err, ℤ, inl, inr, refl, sym, ap, subst, ◌∙◌}
+use Rattle.std.proofs.Common.{Some, None, Result, Ok, Err, ℤ, refl, sym, ap, subst, ◌∙◌}
 use Rattle.std.proofs.Common.{arith, append_assoc, append-nil, length, take, drop, length-append}
 use Rattle.std.proofs.Common.{length-drop}
 use Rattle.ptb_text.specs.Lines.{lines}
 use Rattle.ptb_text.specs.Statements.{StoredProgram}
-use Rattle.ptb_text.specs.declared.device_fault.DeviceFault.{DeviceFault}
-use Rattle.ptb_text.specs.declared.device_fault.DeviceFault.TheVariants as fails
 use Rattle.ptb_answers.specs.declared.pause.Pause.{Pause}
 use Rattle.ptb_answers.specs.declared.pause.Pause.TheVariants as pauses
 use Rattle.ptb_answers.specs.Outcome.{Answers, Outcome, Asks, Out, go_on, map_outcome, is_open}
@@ -24,14 +22,13 @@ use Rattle.ptb_machine.specs.Laws.{RunLaws}
 use Rattle.ptb_command.specs.Devices.{ScreenState, devices, Refusal, nothing_refused, refused_by}
 use Rattle.ptb_command.specs.Configuration.{Configuration}
 use Rattle.ptb_command.specs.Effects.{act_state}
-use Rattle.ptb_command.specs.Stops.{AsksUnanswered, DeviceFails, IsOutOfLines}
+use Rattle.ptb_command.specs.Stops.{AsksUnanswered, IsOutOfLines}
 use Rattle.ptb_devices.specs.Sources.{Gives, LineList}
-use Rattle.ptb_machine.specs.RunFaults.{fault_of_device}
 use Rattle.ptb_machine.specs.Steps.{FitsProgram, PlainTurns, DoesStep}
 use Rattle.ptb_machine.specs.TurnResults.{StepsTo, goes, ends, StepComes}
 use Rattle.ptb_chances.specs.Chances.{last_line}
 use Rattle.ptb_machine.specs.Play.{run_from}
-use Rattle.ptb_machine.proofs.PublicLemmas.{of_turn}
+use Rattle.ptb_machine.proofs.PublicLemmas.{fault_in_memory, of_turn}
 use Rattle.ptb_chances.specs.PlanChoosers.{PlanAnswers, plan_choices, RefusedByPlanAnswers}
 use Rattle.ptb_chances.specs.StagePlays.{SameEnd, IsStageAt, Came, IsOver, IsAsked, PlaysTo, played_of}
 use Rattle.ptb_chances.specs.declared.plays.Played.{Played}
@@ -261,25 +258,10 @@ module _ (laws : RunLaws) (p : StoredProgram) (rules : Rules) where
         turn_out S m new c l s t given left rest most few u w.0 w.1 opens
 
     -- bytes and lines are in memory
-    by_device : (device : DeviceFault)
-        → DeviceFails (refused_by (RefusedByPlanAnswers l) (λ _. ⊥) (Some rest))
-        (StepsTo p.lines new (devices c (text_state s) most rules.choose []) u.state rest (turn p rules.limit u.state))
-        (devices (plan_choices l) (text_state t) few rules.choose given) act_state (Over endings.NoInput) device
-        → fault_of_device device ≡ faults.Memory
-    by_device fails.Read w = absurd w.broken.0
-    by_device fails.TooLong w = absurd w.broken.0
-    by_device fails.Write w =
-        let none : w.screen.failures ≡ 0 = w.comes.exchanges.unfailed in
-        elim w.broken.0 [ inl x ↦ absurd (omega (arith, none, x)) | inr x ↦ absurd (omega (arith, none, x)) ]
-    by_device fails.Memory w = refl
-
     pub only_memory : (r ≡ Err faults.Spent → ⊥) → (f : RunFault) → r ≡ Err f → f ≡ faults.Memory
-    only_memory unspent faults.Memory is = refl
-    only_memory unspent faults.Read is =
-        let w : Comes (Err faults.Read) = comes (Err faults.Read) is in w.1 ∙ by_device w.0 w.2
-    only_memory unspent faults.Write is =
-        let w : Comes (Err faults.Write) = comes (Err faults.Write) is in w.1 ∙ by_device w.0 w.2
-    only_memory unspent faults.Spent is = absurd (unspent is)
+    only_memory unspent f is = fault_in_memory (RefusedByPlanAnswers l) (Some rest) p.lines new
+        (devices c (text_state s) most rules.choose []) (devices (plan_choices l) (text_state t) few rules.choose given)
+        u.state rest (turn p rules.limit u.state) refl refl f (λ spent. unspent (is ∙ ap Err spent)) (comes (Err f) is)
 
 -- where a list can give no line, none is left
 pub none_follow : (s : LineList) → length s.lines - s.taken ≡ 0 → drop s.taken s.lines ≡ []

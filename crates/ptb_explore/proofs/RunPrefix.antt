@@ -1,13 +1,11 @@
 -- This file proves how a run continues that is played step by step, and how it ends.
 -- Main lemmas: `step_ends` and `step_goes`.
 use Rattle.std.proofs.Common.{◌≡◌, ℕ, ◌+◌, ◌-◌, ◌<◌, ◌≤◌, List, [], ◌∷◌, ◌++◌, zero, suc, true}
-use Rattle.std.proofs.Common.{Option, Some, None, Result, Ok, Err, ℤ, inl, inr, refl, sym, ap}
+use Rattle.std.proofs.Common.{Option, Some, None, Result, Ok, Err, ℤ, refl, sym, ap}
 use Rattle.std.proofs.Common.{subst, ◌∙◌, arith, append_assoc, append-nil, length, drop}
 use Rattle.std.proofs.Common.{length-append, length-drop}
 use Rattle.std.proofs.Math.Path.{fun_ext}
 use Rattle.ptb_text.specs.Statements.{StoredProgram}
-use Rattle.ptb_text.specs.declared.device_fault.DeviceFault.{DeviceFault}
-use Rattle.ptb_text.specs.declared.device_fault.DeviceFault.TheVariants as fails
 use Rattle.ptb_answers.specs.declared.pause.Pause.{Pause}
 use Rattle.ptb_answers.specs.declared.pause.Pause.TheVariants as pauses
 use Rattle.ptb_devices.specs.Sources.{LineList, Gives}
@@ -25,13 +23,12 @@ use Rattle.ptb_command.specs.Devices.{ScreenState, devices, Refusal, nothing_ref
 use Rattle.ptb_command.specs.Configuration.{Configuration}
 use Rattle.ptb_command.specs.Effects.{act_state}
 use Rattle.ptb_command.specs.Representation.{Represents}
-use Rattle.ptb_command.specs.Stops.{AsksUnanswered, DeviceFails, IsOutOfLines}
-use Rattle.ptb_machine.specs.RunFaults.{fault_of_device}
+use Rattle.ptb_command.specs.Stops.{AsksUnanswered, IsOutOfLines}
 use Rattle.ptb_machine.specs.Steps.{PlainTurns, DoesStep}
 use Rattle.ptb_machine.specs.TurnResults.{StepsTo, goes, ends, StepComes}
 use Rattle.ptb_answers.specs.declared.rules.Rules.{Rules}
 use Rattle.ptb_machine.specs.Questions.{most_answers}
-use Rattle.ptb_machine.proofs.PublicLemmas.{of_turn}
+use Rattle.ptb_machine.proofs.PublicLemmas.{fault_in_memory, of_turn}
 use Rattle.ptb_explore.specs.Laws.{TreeLaws}
 use Rattle.ptb_machine.specs.RunEffects.{steps_of_run}
 use Rattle.ptb_explore.specs.PlannedPlays.{Holds, NextIsOutside, PlayEnds, IsRunPrefix, play_steps}
@@ -353,36 +350,18 @@ module _ (laws : RunLaws) (p : StoredProgram) (input : List (List ℕ)) (rules :
       (u : IsRunPrefix p input rules c s left m) (l : left ≡ given ++ rest) (follows : few ≡ 0
       → rest ≡ []) (steps : DoesStep (refused_by refuses (λ _. ⊥) (Some rest)) p rules.limit m new
       (devices c (text_state s) most rules.choose []) (devices d (text_state t) few rules.choose given) r) where
-    abbrev Fault : RunFault → Type 0
-    Fault f = StepComes (refused_by refuses (λ _. ⊥) (Some rest))
+    faulted : (f : RunFault) → r ≡ Err f → StepComes (refused_by refuses (λ _. ⊥) (Some rest))
         (StepsTo p.lines new (devices c (text_state s) most rules.choose []) u.state rest (turn p rules.limit u.state))
         (devices d (text_state t) few rules.choose given) (Err f)
-
-    faulted : (f : RunFault) → r ≡ Err f → Fault f
     faulted f is = subst (λ r. StepComes (refused_by refuses (λ _. ⊥) (Some rest)) (StepsTo p.lines new
         (devices c (text_state s) most rules.choose []) u.state rest (turn p rules.limit u.state))
         (devices d (text_state t) few rules.choose given) r) is (steps u.state rest
         (record { represents = u.represents; lines = u.left_is ∙ l; follow = λ none. (follows none, u.choose) }))
 
-    by_device : (device : DeviceFault)
-        → DeviceFails (refused_by refuses (λ _. ⊥) (Some rest))
-        (StepsTo p.lines new (devices c (text_state s) most rules.choose []) u.state rest (turn p rules.limit u.state))
-        (devices d (text_state t) few rules.choose given) act_state (Over endings.NoInput) device
-        → fault_of_device device ≡ faults.Memory
-    by_device fails.Read w = absurd w.broken.0
-    by_device fails.TooLong w = absurd w.broken.0
-    by_device fails.Write w =
-        let none : w.screen.failures ≡ 0 = w.comes.exchanges.unfailed in
-        elim w.broken.0 [ inl x ↦ absurd (omega (arith, none, x)) | inr x ↦ absurd (omega (arith, none, x)) ]
-    by_device fails.Memory w = refl
-
     pub only_memory : (r ≡ Err faults.Spent → ⊥) → (f : RunFault) → r ≡ Err f → f ≡ faults.Memory
-    only_memory unspent faults.Memory is = refl
-    only_memory unspent faults.Read is =
-        let w : Fault faults.Read = faulted faults.Read is in w.1 ∙ by_device w.0 w.2
-    only_memory unspent faults.Write is =
-        let w : Fault faults.Write = faulted faults.Write is in w.1 ∙ by_device w.0 w.2
-    only_memory unspent faults.Spent is = absurd (unspent is)
+    only_memory unspent f is = fault_in_memory refuses (Some rest) p.lines new
+        (devices c (text_state s) most rules.choose []) (devices d (text_state t) few rules.choose given)
+        u.state rest (turn p rules.limit u.state) refl refl f (λ spent. unspent (is ∙ ap Err spent)) (faulted f is)
 
 -- ---- a chooser that took the same answers
 

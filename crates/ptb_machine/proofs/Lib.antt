@@ -32,3 +32,4 @@ mod ListAnswers
 mod ReaderRuns
 mod AnswerBounds
 mod EveryEnding
+mod MemoryFaults
