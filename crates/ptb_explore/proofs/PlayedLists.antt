@@ -11,21 +11,8 @@ use Rattle.ptb_explore.specs.Beginnings.{list_steps, list_steps_left}
 use Rattle.ptb_explore.specs.Copies.{play_limit}
 use Rattle.ptb_explore.specs.Explorations.{steps_of_runs}
 use Rattle.ptb_explore.proofs.NextRuns.{left_next, left_none}
-use Rattle.ptb_explore.proofs.PlayedRuns.{none_left}
+use Rattle.ptb_explore.proofs.PlayedRuns.{none_left, plays_once}
 use Rattle.ptb_explore.proofs.WrittenLines.{game_of, game_reads}
-
--- ---- one after the other
-
-pub lists_then : (a b c : Splitting) → PlaysLists a b → PlaysLists b c → PlaysLists a c
-lists_then a b c h k = omega (arith, h, k)
-
-pub list_once_then : (a b c : Splitting) → PlaysLists a b → PlaysOneListMore b c → PlaysOneListMore a c
-list_once_then a b c h k = omega (arith, h, k)
-
-pub lists_once : (a b : Splitting) → PlaysLists a b → PlaysOneListMore a b
-lists_once a b h = omega (arith, h)
-
--- ---- the next list
 
 module _ (laws : RunLaws) (old new : Splitting) (same : IsSameSearch old new) where
   abbrev steps_from : Front → ℕ
@@ -59,5 +46,5 @@ module _ (laws : RunLaws) (old new : Splitting) (same : IsSameSearch old new) wh
   pub next_list_once : (result : Result Bool AllocError)
       → IfOk result (MovesTo (game_of old) old.front new.front) → IfOk result (PlaysList old new)
       → OnErr result (new.front ≡ old.front) → new.played < old.played + play_limit → PlaysOneListMore old new
-  next_list_once (Ok found) moved plays unmoved once = lists_once old new (found_played found moved plays)
+  next_list_once (Ok found) moved plays unmoved once = plays_once (found_played found moved plays)
   next_list_once (Err e) moved plays unmoved once = refused_once unmoved once

@@ -1,7 +1,7 @@
 -- This file proves that a listing plays no more steps than its runs have, and those of one play that was refused
 -- memory.
 -- Main lemmas: `next_played` and `next_once`.
-use Rattle.std.proofs.Common.{◌≡◌, ℕ, ◌+◌, [], Option, Some, None, Result, Ok, Err}
+use Rattle.std.proofs.Common.{◌≡◌, ℕ, ◌+◌, ◌<◌, ◌≤◌, [], Option, Some, None, Result, Ok, Err}
 use Rattle.std.proofs.Common.{Bool, true, false, ◌&&◌, IfOk, IfSome, refl, ap, sym, subst, ◌∙◌, arith}
 use Rattle.std.proofs.lemmas.Bool.{false≢true}
 use Rattle.std.specs.Borrow.{Bor}
@@ -12,6 +12,7 @@ use Rattle.ptb_devices.specs.Screens.{IsScreenFault}
 use Rattle.ptb_explore.specs.declared.fault.ExploreFault.{ExploreFault}
 use Rattle.ptb_explore.specs.declared.fault.ExploreFault.TheVariants.{Memory}
 use Rattle.ptb_explore.specs.declared.report.Report.{Report}
+use Rattle.ptb_explore.specs.Copies.{play_limit}
 use Rattle.ptb_explore.specs.Explorations.{Exploration, FoundNext, NextLeaves, PlaysOneMore, PlaysRuns, Reports}
 use Rattle.ptb_explore.specs.Explorations.{most_of, play_of, played_after, steps_left, steps_of_outcome, steps_of_runs}
 use Rattle.ptb_explore.specs.Listing.{fault_after}
@@ -26,14 +27,14 @@ and_false false = refl
 
 -- ---- one after the other
 
-pub plays_then : (a b c : Exploration) → PlaysRuns a b → PlaysRuns b c → PlaysRuns a c
-plays_then a b c h k = omega (arith, h, k)
+-- each number is of the commands that were played and of those that are left: no more at a later place, or more by
+-- less than one play can add
 
-pub once_then : (a b c : Exploration) → PlaysRuns a b → PlaysOneMore b c → PlaysOneMore a c
-once_then a b c h k = omega (arith, h, k)
+pub once_then : {first second third : ℕ} → second ≤ first → third < second + play_limit → third < first + play_limit
+once_then h k = omega (arith, h, k)
 
-pub plays_once : (a b : Exploration) → PlaysRuns a b → PlaysOneMore a b
-plays_once a b h = omega (arith, h)
+pub plays_once : {first second : ℕ} → second ≤ first → second < first + play_limit
+plays_once h = omega (arith, h)
 
 -- ---- the next run
 
@@ -97,7 +98,7 @@ module _ (old new : Exploration) (reads : IsReader (play_of old) (most_of old)) 
       → IfOk result (λ o. IfSome o (λ r. Reports (play_of old) r.now))
       → IfOk result (λ o. IfSome o (λ r. IsNextRun (play_of old) old.prefix old.front (answers_in r.now.asked.items)))
       → PlaysOneMore old new
-  next_once (Ok o) h reports first = plays_once old new (next_plays o h reports first)
+  next_once (Ok o) h reports first = plays_once (next_plays o h reports first)
   next_once (Err e) h reports first = refused_plays e h
 
 -- ---- at the end of a listing

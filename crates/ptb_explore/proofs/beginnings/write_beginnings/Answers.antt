@@ -3,8 +3,7 @@ use Rattle.std.proofs.Common.{rules, ◌∙◌, []}
 use Rattle.std.proofs.Math.Nat.{le_trans}
 use Rattle.ptb_explore.specs.Beginnings.{beginning_line, split_play}
 use Rattle.ptb_explore.proofs.Exits.{ok_no_err}
-use Rattle.ptb_explore.proofs.PlayedLists.{list_once_then, lists_then}
-use Rattle.ptb_explore.proofs.PlayedRuns.{ended_played}
+use Rattle.ptb_explore.proofs.PlayedRuns.{ended_played, once_then}
 use Rattle.ptb_text.proofs.PublicLemmas.{failed_after}
 use Rattle.ptb_explore.proofs.WrittenLines.{game_of, game_reads, line_ends, no_line}
 use Rattle.ptb_explore.proofs.WrittenLines.{one_line_fewer, one_line_more, same_search}
@@ -25,8 +24,7 @@ loop-fault-preserved g c = record {
   same = same_search c.args.form c.args.beginnings.now c.loop-fault.beginnings c.loop-fault.invariant.same _
       c.in-Ok-true.ensures.same;
   rises = le_trans c.loop-fault.invariant.rises c.in-Ok-true.ensures.rises;
-  played = lists_then c.args.beginnings.now c.loop-fault.beginnings c.write_next_line.new.beginnings
-      c.loop-fault.invariant.played (c.in-Ok-true.ensures.played (λ fault. ok_no_err fault));
+  played = le_trans (c.in-Ok-true.ensures.played (λ fault. ok_no_err fault)) c.loop-fault.invariant.played;
   unfailed = c.in-Ok-true.ensures.unfailed (λ fault. ok_no_err fault) ∙ c.loop-fault.invariant.unfailed;
   progress = one_line_more c.args.form c.args.beginnings.now c.loop-fault.beginnings c.loop-fault.invariant.same
       (game_reads c.run_laws.ensures c.args.beginnings.now) _ _ _ _ c.loop-fault.invariant.progress
@@ -39,10 +37,8 @@ returns-in-Ok-false g c = record {
   same = same_search c.args.form c.args.beginnings.now c.loop-fault.beginnings c.loop-fault.invariant.same _
       c.in-Ok-false.ensures.same;
   rises = le_trans c.loop-fault.invariant.rises c.in-Ok-false.ensures.rises;
-  played = λ _. lists_then c.args.beginnings.now c.loop-fault.beginnings c.write_next_line.new.beginnings
-      c.loop-fault.invariant.played (c.in-Ok-false.ensures.played (λ fault. ok_no_err fault));
-  once = list_once_then c.args.beginnings.now c.loop-fault.beginnings c.write_next_line.new.beginnings
-      c.loop-fault.invariant.played c.in-Ok-false.ensures.once;
+  played = λ _. le_trans (c.in-Ok-false.ensures.played (λ fault. ok_no_err fault)) c.loop-fault.invariant.played;
+  once = once_then c.loop-fault.invariant.played c.in-Ok-false.ensures.once;
   writes = no_line c.args.form c.args.beginnings.now c.loop-fault.beginnings c.loop-fault.invariant.same
       (game_reads c.run_laws.ensures c.args.beginnings.now) _ _ _ _ c.loop-fault.invariant.progress
       c.write_next_line.new.beginnings.front _ _ c.in-Ok-false.field-0-test c.in-Ok-false.ensures.writes;
@@ -59,10 +55,9 @@ returns-in-Err g c =
     rw c.after.ensures (record {
       same = same_search c.args.form c.args.beginnings.now s c.loop-fault.invariant.same _ c.in-Err.ensures.same;
       rises = le_trans c.loop-fault.invariant.rises c.in-Err.ensures.rises;
-      played = ended_played c.in-Err.fault kind (λ none. lists_then c.args.beginnings.now s
-          c.write_next_line.new.beginnings c.loop-fault.invariant.played (c.in-Err.ensures.played none)) _;
-      once = list_once_then c.args.beginnings.now s c.write_next_line.new.beginnings c.loop-fault.invariant.played
-          c.in-Err.ensures.once;
+      played = ended_played c.in-Err.fault kind
+          (λ none. le_trans (c.in-Err.ensures.played none) c.loop-fault.invariant.played) _;
+      once = once_then c.loop-fault.invariant.played c.in-Err.ensures.once;
       writes = line_ends c.args.form c.args.beginnings.now s c.loop-fault.invariant.same
           (game_reads c.run_laws.ensures c.args.beginnings.now) _ _ _ _ c.loop-fault.invariant.progress
           c.write_next_line.new.beginnings.front _ c.in-Err.fault c.in-Err.ensures.writes;

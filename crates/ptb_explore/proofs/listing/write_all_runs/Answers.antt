@@ -2,7 +2,7 @@
 use Rattle.std.proofs.Common.{rules, ◌∙◌}
 use Rattle.std.proofs.Math.Nat.{le_trans}
 use Rattle.ptb_explore.proofs.Exits.{ok_no_err}
-use Rattle.ptb_explore.proofs.PlayedRuns.{ended_played, once_then, plays_once, plays_then}
+use Rattle.ptb_explore.proofs.PlayedRuns.{ended_played, once_then, plays_once}
 use Rattle.ptb_text.proofs.PublicLemmas.{failed_after}
 use Rattle.ptb_explore.specs.Explorations.{play_of}
 use Rattle.ptb_explore.specs.Report.{report}
@@ -25,8 +25,7 @@ loop-form-preserved g c = record {
   same = same_after c.args.form c.args.explorer.now c.loop-form.explorer c.loop-form.invariant.same _
       c.in-Ok-true.ensures.same;
   rises = le_trans c.loop-form.invariant.rises c.in-Ok-true.ensures.rises;
-  played = plays_then c.args.explorer.now c.loop-form.explorer c.write_next.new.explorer c.loop-form.invariant.played
-      (c.in-Ok-true.ensures.played (λ fault. ok_no_err fault));
+  played = le_trans (c.in-Ok-true.ensures.played (λ fault. ok_no_err fault)) c.loop-form.invariant.played;
   unfailed = c.in-Ok-true.ensures.unfailed (λ fault. ok_no_err fault) ∙ c.loop-form.invariant.unfailed;
   progress = one_more c.args.form c.args.explorer.now c.loop-form.explorer c.loop-form.invariant.same
       (c.run_laws.ensures.reads c.args.explorer.now.program c.args.explorer.now.input c.args.explorer.now.rules) _ _ _ _
@@ -40,10 +39,8 @@ returns-in-Ok-false g c = record {
   same = same_after c.args.form c.args.explorer.now c.loop-form.explorer c.loop-form.invariant.same _
       c.in-Ok-false.ensures.same;
   rises = le_trans c.loop-form.invariant.rises c.in-Ok-false.ensures.rises;
-  played = λ _. plays_then c.args.explorer.now c.loop-form.explorer c.write_next.new.explorer
-      c.loop-form.invariant.played (c.in-Ok-false.ensures.played (λ fault. ok_no_err fault));
-  once = once_then c.args.explorer.now c.loop-form.explorer c.write_next.new.explorer c.loop-form.invariant.played
-      c.in-Ok-false.ensures.once;
+  played = λ _. le_trans (c.in-Ok-false.ensures.played (λ fault. ok_no_err fault)) c.loop-form.invariant.played;
+  once = once_then c.loop-form.invariant.played c.in-Ok-false.ensures.once;
   writes = none_next c.args.form c.args.explorer.now c.loop-form.explorer c.loop-form.invariant.same
       (c.run_laws.ensures.reads c.args.explorer.now.program c.args.explorer.now.input c.args.explorer.now.rules) _ _ _ _
       _ c.loop-form.invariant.progress
@@ -61,10 +58,9 @@ returns-in-Err g c =
     rw c.after.ensures (record {
       same = same_after c.args.form c.args.explorer.now e c.loop-form.invariant.same _ c.in-Err.ensures.same;
       rises = le_trans c.loop-form.invariant.rises c.in-Err.ensures.rises;
-      played = ended_played c.in-Err.fault kind (λ none. plays_then c.args.explorer.now e c.write_next.new.explorer
-          c.loop-form.invariant.played (c.in-Err.ensures.played none)) _;
-      once = once_then c.args.explorer.now e c.write_next.new.explorer c.loop-form.invariant.played
-          c.in-Err.ensures.once;
+      played = ended_played c.in-Err.fault kind
+          (λ none. le_trans (c.in-Err.ensures.played none) c.loop-form.invariant.played) _;
+      once = once_then c.loop-form.invariant.played c.in-Err.ensures.once;
       writes = next_ends c.args.form c.args.explorer.now e c.loop-form.invariant.same
           (c.run_laws.ensures.reads c.args.explorer.now.program c.args.explorer.now.input c.args.explorer.now.rules) _ _
           _ _ _ c.loop-form.invariant.progress
@@ -80,7 +76,7 @@ returns g c = record {
   same = c.loop-form.invariant.same;
   rises = c.loop-form.invariant.rises;
   played = λ _. c.loop-form.invariant.played;
-  once = plays_once c.args.explorer.now c.loop-form.explorer c.loop-form.invariant.played;
+  once = plays_once c.loop-form.invariant.played;
   writes = all_wanted c.args.form c.args.explorer.now c.loop-form.explorer c.loop-form.invariant.same
       (c.run_laws.ensures.reads c.args.explorer.now.program c.args.explorer.now.input c.args.explorer.now.rules) _ _ _ _
       _ c.loop-form.invariant.progress c.loop-form-test.ensures;
