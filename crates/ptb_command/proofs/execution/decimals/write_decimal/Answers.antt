@@ -6,14 +6,8 @@ use Rattle.ptb_command.proofs.execution.decimals.write_decimal.Goals as goal
 pub write_digits-start-requires : goal.write_digits-start-requires
 write_digits-start-requires c = search rules fits 50 depth 2
 
-pub returns-then-value-ge0-clause-start : goal.returns-then-value-ge0-clause-start
-returns-then-value-ge0-clause-start c = search rules fits 50 depth 2
-
-pub returns-then-value-ge0-clause-written : goal.returns-then-value-ge0-clause-written
-returns-then-value-ge0-clause-written c = search rules fits 50 depth 2
-
-pub returns-then-value-ge0-clause-before : goal.returns-then-value-ge0-clause-before
-returns-then-value-ge0-clause-before c = search rules fits 50 depth 2
+pub returns-then-value-ge0 : goal.returns-then-value-ge0
+returns-then-value-ge0 c = search rules fits 50 depth 2
 
 pub overflow_sub-bytes : goal.overflow_sub-bytes
 overflow_sub-bytes c = search rules fits 50 depth 2

@@ -9,14 +9,8 @@ new-requires c = search rules fits 50 depth 2
 pub same-self : goal.same-self
 same-self c = search rules fits 50 depth 2
 
-pub returns-in_err-self-inside-clause-ok : goal.returns-in_err-self-inside-clause-ok
-returns-in_err-self-inside-clause-ok c = search rules fits 50 depth 2
-
-pub returns-in_err-self-inside-clause-same_size : goal.returns-in_err-self-inside-clause-same_size
-returns-in_err-self-inside-clause-same_size c = search rules fits 50 depth 2
-
-pub returns-in_err-self-inside-clause-err : goal.returns-in_err-self-inside-clause-err
-returns-in_err-self-inside-clause-err c = search rules fits 50 depth 2
+pub returns-in_err-self-inside : goal.returns-in_err-self-inside
+returns-in_err-self-inside c = search rules fits 50 depth 2
 
 pub put_front-requires-clause-fits : goal.put_front-requires-clause-fits
 put_front-requires-clause-fits c = search rules fits 50 depth 2
