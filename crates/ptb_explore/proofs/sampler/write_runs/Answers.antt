@@ -34,38 +34,22 @@ loop-remaining-preserved g c =
           (Ok tt) i.program c.in-Ok.ensures.writes);
     }
 
-pub returns-in-Err-clause-writes : goal.returns-in-Err-clause-writes
-returns-in-Err-clause-writes g c =
+pub returns-in-Err : goal.returns-in-Err
+returns-in-Err g c =
     let l = c.loop-remaining in
     let p = c.args.sampler.now.player in
-    let lines = c.args.lines.now in
-    let rules = c.args.rules in
-    let game = play p lines rules in
-    let most = most_answers p lines rules.limit in
-    rw c.after.ensures (sampled_ends game most (report c.args.sample.form game) c.args.sampler.now.chooser.first
-    c.args.sample.runs _ l.sampler.chooser.first _ l.remaining _ _ c.loop-remaining-test.true l.invariant.sampled
-    c.from.ensures c.in-Err.fault (run_of lines rules l.sampler.player p l.sampler.chooser.first c.args.sample.form
-    (g.W.Write.contents l.writer) (g.W.Write.contents c.write_run.new.writer) (Err c.in-Err.fault) l.invariant.program
-    c.in-Err.ensures.writes))
-
-pub returns-in-Err-clause-failed : goal.returns-in-Err-clause-failed
-returns-in-Err-clause-failed g c =
-    let l = c.loop-remaining in
-    let p = l.sampler.player in
     let game = play p c.args.lines.now c.args.rules in
-    let run = answers_by (most_answers p c.args.lines.now c.args.rules.limit) l.sampler.chooser.first game in
-    let kind = run_kind (report c.args.sample.form game) run (g.W.Write.contents l.writer)
-    (g.W.Write.contents c.write_run.new.writer) c.in-Err.fault c.in-Err.ensures.writes in
-    rw c.after.ensures (ended_failed c.in-Err.fault kind
-    (λ fault. failed_after _ _ _ l.invariant.unfailed (c.in-Err.ensures.failed fault)) _)
-
-pub returns-in-Err-clause-unfailed : goal.returns-in-Err-clause-unfailed
-returns-in-Err-clause-unfailed g c =
-    let l = c.loop-remaining in
-    let p = l.sampler.player in
-    let game = play p c.args.lines.now c.args.rules in
-    let run = answers_by (most_answers p c.args.lines.now c.args.rules.limit) l.sampler.chooser.first game in
-    let kind = run_kind (report c.args.sample.form game) run (g.W.Write.contents l.writer)
-    (g.W.Write.contents c.write_run.new.writer) c.in-Err.fault c.in-Err.ensures.writes in
-    rw c.after.ensures (ended_unfailed c.in-Err.fault kind
-    (λ none. c.in-Err.ensures.unfailed none ∙ l.invariant.unfailed) _)
+    let most = most_answers p c.args.lines.now c.args.rules.limit in
+    let wrote = run_of c.args.lines.now c.args.rules l.sampler.player p l.sampler.chooser.first c.args.sample.form
+    (g.W.Write.contents l.writer) (g.W.Write.contents c.write_run.new.writer) (Err c.in-Err.fault)
+    l.invariant.program c.in-Err.ensures.writes in
+    let kind = run_kind (report c.args.sample.form game) (answers_by most l.sampler.chooser.first game)
+    (g.W.Write.contents l.writer) (g.W.Write.contents c.write_run.new.writer) c.in-Err.fault wrote in
+    rw c.after.ensures (record {
+      writes = sampled_ends game most (report c.args.sample.form game) c.args.sampler.now.chooser.first
+          c.args.sample.runs _ l.sampler.chooser.first _ l.remaining _ _ c.loop-remaining-test.true l.invariant.sampled
+          c.from.ensures c.in-Err.fault wrote;
+      failed = ended_failed c.in-Err.fault kind
+          (λ fault. failed_after _ _ _ l.invariant.unfailed (c.in-Err.ensures.failed fault)) _;
+      unfailed = ended_unfailed c.in-Err.fault kind (λ none. c.in-Err.ensures.unfailed none ∙ l.invariant.unfailed) _;
+    })
