@@ -41,10 +41,6 @@ returns c back =
     let step : to_z w16 (of_z w16 item.step) ≡ item.step = search rules in
     let limit : to_z w16 (of_z w16 item.limit) ≡ item.limit = search rules in
     let value : to_z w16 (of_z w16 v) ≡ v = search rules in
-    let bounds = sum_bounds (loop_of_open back item) v _ _
-    (rw limit at (rw step at (c.is_past.ensures item.letter back))) c.if-is_past.false
-    (omega (arith, ints, step, value, c.from.ensures, c.from-2.ensures)) value step limit in
     turn_added (loop_of_open back item) v _ _ (rw limit at (rw step at (c.is_past.ensures item.letter back)))
     c.if-is_past.false (omega (arith, ints, step, value, c.from.ensures, c.from-2.ensures)) value step limit
-    c.args.store.now c.set.new.self _ c.set.ensures (omega (arith, ints, bounds.0, bounds.1))
-    (omega (arith, ints, bounds.0, bounds.1)) c.get.ensures
+    c.args.store.now c.set.new.self _ c.set.ensures (λ bounds. omega (arith, ints, bounds.0, bounds.1)) c.get.ensures
