@@ -13,6 +13,7 @@ use Rattle.ptb_explore.proofs.RestoredCopies.{agrees_same, prefix_of_same}
 use Rattle.ptb_explore.proofs.KeptCopies.{kept_same}
 use Rattle.ptb_explore.proofs.Runners.{copies_stay, counted, game_is, steps_are, still_same}
 use Rattle.ptb_explore.proofs.runner.Runner.play_plan.Goals as goal
+use Rattle.ptb_explore.proofs.runner.Runner.play_plan.Goals.{After-go_back-machine}
 
 pub returns-clause-same : goal.returns-clause-same
 returns-clause-same c = counted c.play_counted-ending.new.self c.go_back-machine.new.self c.args.self.now _ _ _
@@ -26,18 +27,28 @@ returns-clause-asked c =
 pub returns-clause-plan : goal.returns-clause-plan
 returns-clause-plan c = c.in_ok-self.ensures.plan ∙ c.in_ok-machine.ensures.plan
 
+-- ---- it went back in the same game
+
+module _ (c : After-go_back-machine) where
+  same_player : c.go_back-machine.new.self.player ≡ c.args.self.now.player
+  same_player = ap (λ (r : Runner). r.player) c.go_back-machine.ensures.same
+
+  same_rules : c.go_back-machine.new.self.rules ≡ c.args.self.now.rules
+  same_rules = ap (λ (r : Runner). r.rules) c.go_back-machine.ensures.same
+
+  same_lines : c.go_back-machine.new.source.lines ≡ c.args.self.now.lines.now
+  same_lines = c.go_back-machine.ensures.same_lines ∙ ap (λ (s : LineList). s.lines) c.new-source.ensures
+
 pub returns-clause-ends : goal.returns-clause-ends
 returns-clause-ends c =
     let old = c.args.self.now in
     let back = c.go_back-machine.new.self in
-    let same = c.go_back-machine.ensures.same in
+    let on = (goal.at.returns-clause-ends c).After-go_back-machine in
     let chooser = c.play_counted-ending.new.self.chooser in
     let steps = c.play_counted-ending.new.machine.steps in
     let shown = c.play_counted-ending.new.screen in
-    let lines : c.go_back-machine.new.source.lines ≡ old.lines.now =
-    c.go_back-machine.ensures.same_lines ∙ ap (λ (s : LineList). s.lines) c.new-source.ensures in
     let game = game_is old.player back.player old.lines.now c.go_back-machine.new.source.lines old.rules back.rules
-    (ap (λ (r : Runner). r.player) same) lines (ap (λ (r : Runner). r.rules) same) in
+    (same_player on) (same_lines on) (same_rules on) in
     let ends = subst (λ (g : Answers → Outcome Finish (List ℕ)). PlayEnds g
     (recorder_choices chooser) chooser.refused_bound steps shown c.in_ok-self.field-0) game c.in_ok-self.ensures.ends in
     rw (c.into_vec.ensures, c.steps-steps.ensures, c.deref.ensures) ends
@@ -46,23 +57,19 @@ pub returns-clause-begun : goal.returns-clause-begun
 returns-clause-begun c =
     let old = c.args.self.now in
     let back = c.go_back-machine.new.self in
-    let same = c.go_back-machine.ensures.same in
-    let lines : c.go_back-machine.new.source.lines ≡ old.lines.now =
-    c.go_back-machine.ensures.same_lines ∙ ap (λ (s : LineList). s.lines) c.new-source.ensures in
+    let on = (goal.at.returns-clause-begun c).After-go_back-machine in
     let begun = c.in_ok-self.ensures.begun ∙ steps_are old.player back.player old.lines.now
-    c.go_back-machine.new.source.lines old.rules back.rules (ap (λ (r : Runner). r.player) same) lines
-    (ap (λ (r : Runner). r.rules) same) (recorder_choices c.play_counted-ending.new.self.chooser).taken in
+    c.go_back-machine.new.source.lines old.rules back.rules (same_player on) (same_lines on) (same_rules on)
+    (recorder_choices c.play_counted-ending.new.self.chooser).taken in
     rw (c.steps-steps.ensures, c.deref.ensures) begun
 
 pub returns-clause-copies : goal.returns-clause-copies
 returns-clause-copies c =
     let old = c.args.self.now in
     let back = c.go_back-machine.new.self in
-    let same = c.go_back-machine.ensures.same in
-    let lines : c.go_back-machine.new.source.lines ≡ old.lines.now =
-    c.go_back-machine.ensures.same_lines ∙ ap (λ (s : LineList). s.lines) c.new-source.ensures in
+    let on = (goal.at.returns-clause-copies c).After-go_back-machine in
     copies_stay back.player old.player c.go_back-machine.new.source.lines old.lines.now back.rules old.rules
-    (sym (ap (λ (r : Runner). r.player) same)) (sym lines) (sym (ap (λ (r : Runner). r.rules) same))
+    (sym (same_player on)) (sym (same_lines on)) (sym (same_rules on))
     (recorder_choices c.play_counted-ending.new.self.chooser).taken _ c.play_counted-ending.new.screen _
     c.play_counted-ending.new.self.copies.kept.items _
     refl c.into_vec.ensures (ap (λ k. k.items) c.recycle.ensures) c.in_ok-self.ensures.copies
