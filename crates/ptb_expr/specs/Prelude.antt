@@ -9,7 +9,7 @@ pub use Rattle.ptb_expr.specs.Builders.{node_of, room_of}
 pub use Rattle.ptb_expr.specs.Evaluation.{Evaluates, IsEvaluated, IsMarkedWithin, IsTarget, IsWhole, variable_target}
 pub use Rattle.ptb_expr.specs.Evaluation.{variable_there, expression_there, expression_value}
 pub use Rattle.ptb_expr.specs.Operators.{product_operator, sum_operator, comparison}
-pub use Rattle.ptb_expr.specs.ReadTrees.{Reads, Fails, ReadsSteps, FailsSteps}
+pub use Rattle.ptb_expr.specs.ReadTrees.{ReadsPart, FailsPart, ReadsSteps, FailsSteps}
 pub use Rattle.ptb_expr.specs.Reading.{item_of, Whole}
 pub use Rattle.ptb_expr.specs.Spells.{Spells, Variable, Expr, Sum, First, Product, Factor, Paren}
 pub use Rattle.ptb_expr.specs.Starts.{BeginsFactor, IsBefore, start_room, sign_of, room_before, IsFirst}

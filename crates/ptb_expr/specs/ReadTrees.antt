@@ -1,9 +1,9 @@
 -- This file defines what was read of a part of the grammar, where something holds of its tree.
--- Main definitions: `Reads` and `Fails`.
+-- Main definitions: `ReadsPart` and `FailsPart`.
 --     ReadsWhole t part i j Holds      the text t has the part from i to j, and Holds is true of its tree
 --     ReadsMalformed t part i Holds    the text t has the part at i, malformed, and Holds is true of its tree
---     Reads part a b Holds             the same as ReadsWhole, between two cursors
---     Fails part a Holds               the same as ReadsMalformed, at a cursor
+--     ReadsPart part a b Holds         the same as ReadsWhole, between two cursors
+--     FailsPart part a Holds           the same as ReadsMalformed, at a cursor
 --     ReadsSteps, FailsSteps           the same, where the steps of the tree were added
 --     AddsCode old new x               the steps of the tree x were added
 --     CutsCode old new x               they were added up to and with a fault
@@ -25,11 +25,11 @@ pub record ReadsMalformed (t : List ℕ) (part : Production) (i : ℕ) (Holds : 
   pub spelled : Spells t part i (Malformed tree)
   pub holds : Holds tree
 
-abbrev pub Reads : Production → CursorState → CursorState → (Tree → Type 0) → Type 0
-Reads part a b Holds = (t : List ℕ) → a.text ≡ t → ReadsWhole t part a.place b.place Holds
+abbrev pub ReadsPart : Production → CursorState → CursorState → (Tree → Type 0) → Type 0
+ReadsPart part a b Holds = (t : List ℕ) → a.text ≡ t → ReadsWhole t part a.place b.place Holds
 
-abbrev pub Fails : Production → CursorState → (Tree → Type 0) → Type 0
-Fails part a Holds = (t : List ℕ) → a.text ≡ t → ReadsMalformed t part a.place Holds
+abbrev pub FailsPart : Production → CursorState → (Tree → Type 0) → Type 0
+FailsPart part a Holds = (t : List ℕ) → a.text ≡ t → ReadsMalformed t part a.place Holds
 
 abbrev pub AddsCode : List Step → List Step → Tree → Type 0
 AddsCode old new x = new ≡ old ++ code_of x
@@ -38,7 +38,7 @@ abbrev pub CutsCode : List Step → List Step → Tree → Type 0
 CutsCode old new x = IsCutAfterFault (old ++ code_of x) new
 
 abbrev pub ReadsSteps : Production → CursorState → CursorState → List Step → List Step → Type 0
-ReadsSteps part a b old new = Reads part a b (AddsCode old new)
+ReadsSteps part a b old new = ReadsPart part a b (AddsCode old new)
 
 abbrev pub FailsSteps : Production → CursorState → List Step → List Step → Type 0
-FailsSteps part a old new = Fails part a (CutsCode old new)
+FailsSteps part a old new = FailsPart part a (CutsCode old new)
