@@ -26,14 +26,14 @@ pub(crate) enum Unary {
 
 /// Makes something of the parts of an expression, in the order in which they are read.
 pub(crate) trait Builder {
-    /// What was made of a part.
-    type Part: Copy;
+    /// What was made of a part of an expression.
+    type Made: Copy;
 
     /// From one state to another, this was made of a part that has this tree.
-    ghost makes: { Self → Self → Self.Part → Tree → Type 0 };
+    ghost makes: { Self → Self → Self.Made → Tree → Type 0 };
 
     /// The same, and it is kept as a left operand.
-    ghost keeps: { Self → Self → Self.Part → Tree → Type 0 };
+    ghost keeps: { Self → Self → Self.Made → Tree → Type 0 };
 
     /// From one state to another, a malformed part was read that has this tree.
     ghost breaks: { Self → Self → Tree → Type 0 };
@@ -45,26 +45,26 @@ pub(crate) trait Builder {
     ghost count: { Self → ℕ };
 
     /// How many steps of a part were not added yet.
-    ghost steps_waiting: { Self.Part → ℕ };
+    ghost steps_waiting: { Self.Made → ℕ };
 
     /// A number.
-    fn number(&mut self, value: i16) -> Self::Part
+    fn number(&mut self, value: i16) -> Self::Made
         ensures made { makes self.old self.new result (Num value) }
         ensures room { count self.new + steps_waiting result ≤ count self.old + 1 };
 
     /// A variable.
-    fn variable(&mut self, letter: Letter) -> Self::Part
+    fn variable(&mut self, letter: Letter) -> Self::Made
         ensures made { makes self.old self.new result (Var letter) }
         ensures room { count self.new + steps_waiting result ≤ count self.old + 1 };
 
     /// SIZE.
-    fn size(&mut self) -> Self::Part
+    fn size(&mut self) -> Self::Made
         requires { count self.old < 256 }
         ensures made { makes self.old self.new result Size }
         ensures room { count self.new + steps_waiting result ≤ count self.old + 1 };
 
     /// What is done with the last part. None where it has no value.
-    fn unary(&mut self, unary: Unary, part: Self::Part, mark: u8) -> Option<Self::Part>
+    fn unary(&mut self, unary: Unary, part: Self::Made, mark: u8) -> Option<Self::Made>
         requires { count self.old + steps_waiting part < 256 }
         ensures made { IfSome result (λ made. (s : Self) (x : Tree) → makes s self.old part x
             → makes s self.new made (node_of unary x mark)) }
@@ -73,7 +73,7 @@ pub(crate) trait Builder {
         ensures none { IsNone result → gives_up };
 
     /// Keeps the last part as a left operand, whose operator was read.
-    fn keep(&mut self, part: Self::Part) -> Self::Part
+    fn keep(&mut self, part: Self::Made) -> Self::Made
         requires { count self.old + steps_waiting part ≤ 256 }
         ensures kept { (s : Self) (x : Tree) → makes s self.old part x → keeps s self.new result x }
         ensures room { count self.new ≤ count self.old + steps_waiting part };
@@ -82,10 +82,10 @@ pub(crate) trait Builder {
     fn binary(
         &mut self,
         operator: Operator,
-        left: Self::Part,
-        right: Self::Part,
+        left: Self::Made,
+        right: Self::Made,
         mark: u8,
-    ) -> Option<Self::Part>
+    ) -> Option<Self::Made>
         requires { count self.old + steps_waiting right < 256 }
         ensures made { IfSome result (λ made. (r s : Self) (x y : Tree) → keeps r s left x
             → makes s self.old right y → makes r self.new made (Bin operator x y mark)) }
@@ -100,7 +100,7 @@ pub(crate) trait Builder {
         ensures room { count self.new ≤ count self.old + 1 };
 
     /// The last part, after which a closing parenthesis is missing.
-    fn unclosed(&mut self, part: Self::Part, mark: u8)
+    fn unclosed(&mut self, part: Self::Made, mark: u8)
         requires { count self.old + steps_waiting part < 256 }
         ensures broken { (s : Self) (x : Tree) → makes s self.old part x
             → breaks s self.new (Unclosed x mark) }
@@ -110,6 +110,6 @@ pub(crate) trait Builder {
     fn malformed_laws(&self)
         ensures inside { (s t : Self) (unary : Unary) (x : Tree) (m : ℕ) → breaks s t x
             → breaks s t (node_of unary x m) }
-        ensures right { (r s t : Self) (op : Operator) (left : Self.Part) (x y : Tree) (m : ℕ)
+        ensures right { (r s t : Self) (op : Operator) (left : Self.Made) (x y : Tree) (m : ℕ)
             → keeps r s left x → breaks s t y → breaks r t (Bin op x y m) };
 }

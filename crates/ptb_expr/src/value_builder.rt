@@ -51,7 +51,7 @@ impl<'a> ValueBuilder<'a> {
 }
 
 impl<'a> Builder for ValueBuilder<'a> {
-    type Part = i16;
+    type Made = i16;
 
     ghost use Rattle.ptb_expr.specs.Builders.{MakesValue};
 
