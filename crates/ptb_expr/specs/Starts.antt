@@ -11,8 +11,8 @@
 use Rattle.std.specs.Prelude.{◌≡◌, ℕ, List}
 use Rattle.ptb_expr.specs.declared.builder.Unary.{Unary}
 use Rattle.ptb_expr.specs.declared.builder.Unary.TheVariants.{Itself, Negate}
-use Rattle.ptb_expr.specs.declared.reader.Before.{Before}
-use Rattle.ptb_expr.specs.declared.reader.Before.TheVariants as befores
+use Rattle.ptb_expr.specs.declared.reader.BeforeProduct.{BeforeProduct}
+use Rattle.ptb_expr.specs.declared.reader.BeforeProduct.TheVariants as befores
 use Rattle.ptb_expr.specs.declared.fault.FaultKind.TheVariants.{How}
 use Rattle.ptb_expr.specs.declared.reader.Start.{Start}
 use Rattle.ptb_expr.specs.declared.reader.Start.TheVariants as starts
@@ -26,29 +26,29 @@ IsBefore t unary inner outer i j =
     (r : Reading Tree) → Spells t inner j r → Spells t outer i (node_over (node_of unary) j r)
 
 -- what is done with the first product
-abbrev pub sign_of : {P : Type 0} → Before P → Unary
-sign_of befores.Minus = Negate
+abbrev pub sign_of : {P : Type 0} → BeforeProduct P → Unary
+sign_of befores.Sign = Negate
 sign_of _ = Itself
 
-abbrev pub room_before : {P : Type 0} → Before P → ℕ
+abbrev pub room_before : {P : Type 0} → BeforeProduct P → ℕ
 room_before befores.Nothing = 0
 room_before _ = 1
 
 -- the first product has no operator before it
-abbrev pub IsFirst : {P : Type 0} → Before P → Type 0
+abbrev pub IsFirst : {P : Type 0} → BeforeProduct P → Type 0
 IsFirst befores.Nothing = Unit {0}
-IsFirst befores.Minus = Unit {0}
+IsFirst befores.Sign = Unit {0}
 IsFirst (befores.Operator op left) = ⊥
 
-abbrev pub node_before : {P : Type 0} → Before P → Tree → Tree → ℕ → Tree
+abbrev pub node_before : {P : Type 0} → BeforeProduct P → Tree → Tree → ℕ → Tree
 node_before befores.Nothing x y m = y
-node_before befores.Minus x y m = Neg y m
+node_before befores.Sign x y m = Neg y m
 node_before (befores.Operator op left) x y m = Bin op x y m
 
 -- between two states of what the reader makes
-abbrev pub KeepsBefore : {S P : Type 0} → (S → S → P → Tree → Type 0) → Before P → S → S → Tree → Type 0
+abbrev pub KeepsBefore : {S P : Type 0} → (S → S → P → Tree → Type 0) → BeforeProduct P → S → S → Tree → Type 0
 KeepsBefore keeps befores.Nothing s t x = t ≡ s
-KeepsBefore keeps befores.Minus s t x = t ≡ s
+KeepsBefore keeps befores.Sign s t x = t ≡ s
 KeepsBefore keeps (befores.Operator op left) s t x = keeps s t left x
 
 abbrev pub BeginsFactor : List ℕ → Start → ℕ → ℕ → Type 0
