@@ -36,7 +36,7 @@ pub(crate) trait Builder {
     ghost keeps: { Self → Self → Self.Made → Tree → Type 0 };
 
     /// From one state to another, a malformed part was read that has this tree.
-    ghost breaks: { Self → Self → Tree → Type 0 };
+    ghost spoils: { Self → Self → Tree → Type 0 };
 
     /// Whether nothing may be made of a part that is not malformed. If so, None says nothing of the expression.
     ghost gives_up: { Type 0 };
@@ -96,20 +96,20 @@ pub(crate) trait Builder {
     /// A part that is malformed from its beginning on.
     fn malformed(&mut self, kind: FaultKind, mark: u8)
         requires { count self.old < 256 }
-        ensures broken { breaks self.old self.new (Bad kind mark) }
+        ensures spoilt { spoils self.old self.new (Bad kind mark) }
         ensures room { count self.new ≤ count self.old + 1 };
 
     /// The last part, after which a closing parenthesis is missing.
     fn unclosed(&mut self, part: Self::Made, mark: u8)
         requires { count self.old + steps_waiting part < 256 }
-        ensures broken { (s : Self) (x : Tree) → makes s self.old part x
-            → breaks s self.new (Unclosed x mark) }
+        ensures spoilt { (s : Self) (x : Tree) → makes s self.old part x
+            → spoils s self.new (Unclosed x mark) }
         ensures room { count self.new ≤ count self.old + steps_waiting part + 1 };
 
     /// What is around a malformed part is malformed, too, whichever state it began in. It does nothing.
     fn malformed_laws(&self)
-        ensures inside { (s t : Self) (unary : Unary) (x : Tree) (m : ℕ) → breaks s t x
-            → breaks s t (node_of unary x m) }
+        ensures inside { (s t : Self) (unary : Unary) (x : Tree) (m : ℕ) → spoils s t x
+            → spoils s t (node_of unary x m) }
         ensures right { (r s t : Self) (op : Operator) (left : Self.Made) (x y : Tree) (m : ℕ)
-            → keeps r s left x → breaks s t y → breaks r t (Bin op x y m) };
+            → keeps r s left x → spoils s t y → spoils r t (Bin op x y m) };
 }

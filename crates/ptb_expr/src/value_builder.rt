@@ -59,7 +59,7 @@ impl<'a> Builder for ValueBuilder<'a> {
 
     ghost keeps = { MakesValue };
 
-    ghost breaks = { λ _ _ _. Unit {0} };
+    ghost spoils = { λ _ _ _. Unit {0} };
 
     ghost gives_up = { Unit {0} };
 

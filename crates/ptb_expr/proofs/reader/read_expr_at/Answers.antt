@@ -26,7 +26,7 @@ returns-in_err-right-clause-fails g c = λ none able t same.
     comparison_fails t _ _ _ x _ _ _ _
     (at_text (λ u. comparison u c.read_sum.new.cursor.place) sum c.in-Some.ensures.value)
     (c.in_err-right.ensures.fails refl able t (c.in-Some.ensures.text ∙ sum))
-    (λ x y made broken. c.malformed_laws.ensures.right _ _ _ _ _ x y _ (c.keep-left.ensures.kept _ x made) broken)
+    (λ x y made spoilt. c.malformed_laws.ensures.right _ _ _ _ _ x y _ (c.keep-left.ensures.kept _ x made) spoilt)
 
 pub returns-clause-reads : goal.returns-clause-reads
 returns-clause-reads g c = λ t same.
