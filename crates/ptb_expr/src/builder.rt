@@ -41,42 +41,42 @@ pub(crate) trait Builder {
     /// Whether nothing may be made of a part that is not malformed. If so, None says nothing of the expression.
     ghost gives_up: { Type 0 };
 
-    /// How many steps it has.
-    ghost count: { Self → ℕ };
+    /// How much of its room is used.
+    ghost room_used: { Self → ℕ };
 
-    /// How many steps of a part were not added yet.
-    ghost steps_waiting: { Self.Made → ℕ };
+    /// How much more of its room a part will take.
+    ghost room_wanted: { Self.Made → ℕ };
 
     /// A number.
     fn number(&mut self, value: i16) -> Self::Made
         ensures made { makes self.old self.new result (Num value) }
-        ensures room { count self.new + steps_waiting result ≤ count self.old + 1 };
+        ensures room { room_used self.new + room_wanted result ≤ room_used self.old + 1 };
 
     /// A variable.
     fn variable(&mut self, letter: Letter) -> Self::Made
         ensures made { makes self.old self.new result (Var letter) }
-        ensures room { count self.new + steps_waiting result ≤ count self.old + 1 };
+        ensures room { room_used self.new + room_wanted result ≤ room_used self.old + 1 };
 
     /// SIZE.
     fn size(&mut self) -> Self::Made
-        requires { count self.old < 256 }
+        requires { room_used self.old < 256 }
         ensures made { makes self.old self.new result Size }
-        ensures room { count self.new + steps_waiting result ≤ count self.old + 1 };
+        ensures room { room_used self.new + room_wanted result ≤ room_used self.old + 1 };
 
     /// What is done with the last part. None where it has no value.
     fn unary(&mut self, unary: Unary, part: Self::Made, mark: u8) -> Option<Self::Made>
-        requires { count self.old + steps_waiting part < 256 }
+        requires { room_used self.old + room_wanted part < 256 }
         ensures made { IfSome result (λ made. (s : Self) (x : Tree) → makes s self.old part x
             → makes s self.new made (node_of unary x mark)) }
-        ensures room { IfSome result (λ made. count self.new + steps_waiting made
-            ≤ count self.old + steps_waiting part + room_of unary) }
+        ensures room { IfSome result (λ made. room_used self.new + room_wanted made
+            ≤ room_used self.old + room_wanted part + room_of unary) }
         ensures none { IsNone result → gives_up };
 
     /// Keeps the last part as a left operand, whose operator was read.
     fn keep(&mut self, part: Self::Made) -> Self::Made
-        requires { count self.old + steps_waiting part ≤ 256 }
+        requires { room_used self.old + room_wanted part ≤ 256 }
         ensures kept { (s : Self) (x : Tree) → makes s self.old part x → keeps s self.new result x }
-        ensures room { count self.new ≤ count self.old + steps_waiting part };
+        ensures room { room_used self.new ≤ room_used self.old + room_wanted part };
 
     /// An operator with its operands, of which the right one is the last part. None where it has no value.
     fn binary(
@@ -86,25 +86,25 @@ pub(crate) trait Builder {
         right: Self::Made,
         mark: u8,
     ) -> Option<Self::Made>
-        requires { count self.old + steps_waiting right < 256 }
+        requires { room_used self.old + room_wanted right < 256 }
         ensures made { IfSome result (λ made. (r s : Self) (x y : Tree) → keeps r s left x
             → makes s self.old right y → makes r self.new made (Bin operator x y mark)) }
-        ensures room { IfSome result (λ made. count self.new + steps_waiting made
-            ≤ count self.old + steps_waiting right + 1) }
+        ensures room { IfSome result (λ made. room_used self.new + room_wanted made
+            ≤ room_used self.old + room_wanted right + 1) }
         ensures none { IsNone result → gives_up };
 
     /// A part that is malformed from its beginning on.
     fn malformed(&mut self, kind: FaultKind, mark: u8)
-        requires { count self.old < 256 }
+        requires { room_used self.old < 256 }
         ensures spoilt { spoils self.old self.new (Bad kind mark) }
-        ensures room { count self.new ≤ count self.old + 1 };
+        ensures room { room_used self.new ≤ room_used self.old + 1 };
 
     /// The last part, after which a closing parenthesis is missing.
     fn unclosed(&mut self, part: Self::Made, mark: u8)
-        requires { count self.old + steps_waiting part < 256 }
+        requires { room_used self.old + room_wanted part < 256 }
         ensures spoilt { (s : Self) (x : Tree) → makes s self.old part x
             → spoils s self.new (Unclosed x mark) }
-        ensures room { count self.new ≤ count self.old + steps_waiting part + 1 };
+        ensures room { room_used self.new ≤ room_used self.old + room_wanted part + 1 };
 
     /// What is around a malformed part is malformed, too, whichever state it began in. It does nothing.
     fn malformed_laws(&self)

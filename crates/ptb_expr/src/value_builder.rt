@@ -63,9 +63,9 @@ impl<'a> Builder for ValueBuilder<'a> {
 
     ghost gives_up = { Unit {0} };
 
-    ghost count = { λ _. 0 };
+    ghost room_used = { λ _. 0 };
 
-    ghost steps_waiting = { λ _. 0 };
+    ghost room_wanted = { λ _. 0 };
 
     #[inline(always)]
     fn number(&mut self, value: i16) -> i16 {
