@@ -38,7 +38,7 @@ pub(crate) trait Builder {
     /// From one state to another, a malformed part was read that has this tree.
     ghost spoils: { Self → Self → Tree → Type 0 };
 
-    /// Whether nothing may be made of a part that is not malformed. If so, None says nothing of the expression.
+    /// Whether it may give up on a part that is not malformed. None then says nothing about the expression.
     ghost gives_up: { Type 0 };
 
     /// How much of its room is used.
@@ -78,7 +78,7 @@ pub(crate) trait Builder {
         ensures kept { (s : Self) (x : Tree) → makes s self.old part x → keeps s self.new result x }
         ensures room { room_used self.new ≤ room_used self.old + room_wanted part };
 
-    /// An operator with its operands, of which the right one is the last part. None where it has no value.
+    /// An operator with its operands; the right one is the last part. None where it has no value.
     fn binary(
         &mut self,
         operator: Operator,
@@ -106,7 +106,7 @@ pub(crate) trait Builder {
             → spoils s self.new (Unclosed x mark) }
         ensures room { room_used self.new ≤ room_used self.old + room_wanted part + 1 };
 
-    /// What is around a malformed part is malformed, too, whichever state it began in. It does nothing.
+    /// What is around a malformed part is malformed, too, whichever state it began in. The function does nothing.
     fn malformed_laws(&self)
         ensures inside { (s t : Self) (unary : Unary) (x : Tree) (m : ℕ) → spoils s t x
             → spoils s t (node_of unary x m) }
