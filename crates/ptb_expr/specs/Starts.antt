@@ -14,8 +14,8 @@ use Rattle.ptb_expr.specs.declared.builder.Unary.TheVariants.{Itself, Negate}
 use Rattle.ptb_expr.specs.declared.reader.BeforeProduct.{BeforeProduct}
 use Rattle.ptb_expr.specs.declared.reader.BeforeProduct.TheVariants as befores
 use Rattle.ptb_expr.specs.declared.fault.FaultKind.TheVariants.{How}
-use Rattle.ptb_expr.specs.declared.reader.Start.{Start}
-use Rattle.ptb_expr.specs.declared.reader.Start.TheVariants as starts
+use Rattle.ptb_expr.specs.declared.reader.FactorStart.{FactorStart}
+use Rattle.ptb_expr.specs.declared.reader.FactorStart.TheVariants as starts
 use Rattle.ptb_expr.specs.Builders.{node_of, room_of}
 use Rattle.ptb_expr.specs.Reading.{Reading, Whole, Malformed, node_over}
 use Rattle.ptb_expr.specs.Spells.{Production, Factor, Paren, Spells}
@@ -51,7 +51,7 @@ KeepsBefore keeps befores.Nothing s t x = t ≡ s
 KeepsBefore keeps befores.Sign s t x = t ≡ s
 KeepsBefore keeps (befores.Operator op left) s t x = keeps s t left x
 
-abbrev pub BeginsFactor : List ℕ → Start → ℕ → ℕ → Type 0
+abbrev pub BeginsFactor : List ℕ → FactorStart → ℕ → ℕ → Type 0
 BeginsFactor t (starts.Number v) i j = Spells t Factor i (Whole (Num v) j)
 BeginsFactor t starts.TooBig i j = Spells t Factor i (Malformed (Bad How j))
 BeginsFactor t (starts.Variable x) i j = Spells t Factor i (Whole (Var x) j)
@@ -59,6 +59,6 @@ BeginsFactor t starts.Size i j = Spells t Factor i (Whole Size j)
 BeginsFactor t (starts.Paren unary) i j = IsBefore t unary Paren Factor i j
 
 -- how much room is needed for it, or before the parentheses
-abbrev pub start_room : Start → ℕ
+abbrev pub start_room : FactorStart → ℕ
 start_room (starts.Paren unary) = room_of unary
 start_room _ = 1
