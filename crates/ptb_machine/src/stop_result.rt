@@ -13,7 +13,7 @@ use ptb_devices::{LineSource, Screen};
 use ptb_text::Program;
 
 // The result of a step whose command stopped so, once its fault is reported if it has one.
-fn stopped(stop: CommandStop) -> Result<Option<Ending>, RunFault>
+fn result_of_stop(stop: CommandStop) -> Result<Option<Ending>, RunFault>
     ensures { result ≡ result_of_stop stop }
 {
     match stop {
@@ -29,7 +29,7 @@ fn stopped(stop: CommandStop) -> Result<Option<Ending>, RunFault>
 
 /// The result of a step whose command, one of this statement, has the result `done`. A fault is
 /// reported.
-pub(crate) fn result_of<C: Chooser, S: Screen, L: LineSource>(
+pub(crate) fn step_result<C: Chooser, S: Screen, L: LineSource>(
     done: Result<(), CommandStop>,
     program: &Program,
     statement: usize,
@@ -54,6 +54,6 @@ pub(crate) fn result_of<C: Chooser, S: Screen, L: LineSource>(
             reported?;
             Ok(Some(ending_of(fault.kind)))
         }
-        _ => stopped(stop),
+        _ => result_of_stop(stop),
     }
 }

@@ -1,12 +1,12 @@
--- This file answers what is left to prove of `result_of`.
+-- This file answers what is left to prove of `step_result`.
 use Rattle.std.proofs.Common.{◌≡◌, ◌∙◌, ap, refl, ℕ, List, Some, Ok, Err, rules, to_z, of_z, w16}
 use Rattle.std.specs.Prelude.{slice_get, unsigned_abs}
 use Rattle.std.proofs.lemmas.Result.{err_from_is_err_and}
 use Rattle.ptb_command.specs.CommandIo.{io_devices}
 use Rattle.ptb_machine.proofs.Results.{result_done, result_stopped, result_reported}
-use Rattle.ptb_machine.proofs.stop_result.result_of.Given as given
-use Rattle.ptb_machine.proofs.stop_result.result_of.Goals as goal
-use Rattle.ptb_machine.proofs.stop_result.result_of.Goals.{After-unsigned_abs}
+use Rattle.ptb_machine.proofs.stop_result.step_result.Given as given
+use Rattle.ptb_machine.proofs.stop_result.step_result.Goals as goal
+use Rattle.ptb_machine.proofs.stop_result.step_result.Goals.{After-unsigned_abs}
 
 -- the number and the text of the statement
 line_told : (g : given.Over) (c : goal.After-unsigned_abs g) (n : ℕ) (text : List ℕ)
@@ -53,7 +53,7 @@ returns-in_ok-reported-in-Fault g c = record {
 pub returns-in_default-stop : goal.returns-in_default-stop
 returns-in_default-stop g c = record {
   comes = λ given cells n text at.
-      result_stopped _ _ _ _ c.in-Err.stop _ c.in_default-stop.not-Fault c.stopped.ensures c.in-Err.is;
+      result_stopped _ _ _ _ c.in-Err.stop _ c.in_default-stop.not-Fault c.result_of_stop.ensures c.in-Err.is;
   chooser = refl;
   same = record { chooser = refl; screen = refl; source = refl; rules = refl };
 }
