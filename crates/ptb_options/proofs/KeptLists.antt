@@ -10,8 +10,8 @@ use Rattle.std.proofs.lemmas.Result.{err_from_is_err_and}
 use Rattle.ptb_answers.specs.declared.form.Marked.{Marked}
 use Rattle.ptb_options.specs.AnswerLists.{HasNoAnswers, IsMisspelled}
 use Rattle.ptb_options.specs.ListMistakes.{IsListOf}
-use Rattle.ptb_options.specs.declared.mistakes.Bounds.{Bounds}
-use Rattle.ptb_options.specs.declared.mistakes.Bounds.TheVariants.{Allowed, Refused}
+use Rattle.ptb_options.specs.declared.mistakes.BoundRule.{BoundRule}
+use Rattle.ptb_options.specs.declared.mistakes.BoundRule.TheVariants.{Allowed, Refused}
 use Rattle.ptb_options.specs.declared.mistakes.ListOption.{ListOption}
 use Rattle.ptb_options.specs.declared.mistakes.ListOption.TheVariants.{After, Answers, Under}
 use Rattle.ptb_options.specs.declared.mistakes.ListMistake.{ListMistake}
@@ -25,7 +25,7 @@ use Rattle.ptb_options.specs.Options.{Options, RunsIt, RefusesAnswers, RefusesIf
 use Rattle.ptb_options.specs.Options.{SpellsIfGiven, LacksMemory, bounds_for, form_of, list_argument}
 
 -- a list with a mistake is none
-mistaken : (bounds : Bounds) (text : Option (List ℕ)) (m : ListMistake) → HasMistake bounds text m
+mistaken : (bounds : BoundRule) (text : Option (List ℕ)) (m : ListMistake) → HasMistake bounds text m
     → IsSomeAnd text (λ s. IsListOf bounds s → ⊥)
 mistaken bounds None m h = h
 mistaken bounds (Some s) m h = h.not_list

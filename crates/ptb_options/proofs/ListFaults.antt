@@ -12,8 +12,8 @@ use Rattle.ptb_answers.specs.declared.form.Marked.{Marked}
 use Rattle.ptb_answers.specs.AnswerText.{item_text, unmarked, without_bound}
 use Rattle.ptb_options.specs.AnswerLists.{IsItem, SpellsItem, SpellsList}
 use Rattle.ptb_options.specs.ListMistakes.{IsFault, IsItemOf, IsListOf, IsListMistake, list_pieces}
-use Rattle.ptb_options.specs.declared.mistakes.Bounds.{Bounds}
-use Rattle.ptb_options.specs.declared.mistakes.Bounds.TheVariants.{Allowed, Refused}
+use Rattle.ptb_options.specs.declared.mistakes.BoundRule.{BoundRule}
+use Rattle.ptb_options.specs.declared.mistakes.BoundRule.TheVariants.{Allowed, Refused}
 use Rattle.ptb_options.specs.declared.mistakes.ListMistake.{ListMistake}
 use Rattle.ptb_options.specs.declared.mistakes.ItemFault.{ItemFault}
 use Rattle.ptb_options.specs.declared.mistakes.ItemFault.TheVariants.{HasBound, NotANumber}
@@ -22,7 +22,7 @@ use Rattle.ptb_options.proofs.AnswerTexts.{list_of_words, one_item, word_of_item
 -- ---- one item
 
 -- a text that is no item, with a bound or without
-pub no_item : (bounds : Bounds) (w : List ℕ) → ((m : Marked) → SpellsItem w m → ⊥) → IsFault bounds w NotANumber
+pub no_item : (bounds : BoundRule) (w : List ℕ) → ((m : Marked) → SpellsItem w m → ⊥) → IsFault bounds w NotANumber
 no_item Allowed w none = record { refused = λ item. none item.0 item.1; why = none }
 no_item Refused w none = record { refused = λ item. none (without_bound item.0) item.1; why = none }
 
@@ -65,7 +65,7 @@ gathered_answers (w ∷ ws) each =
     (item.0 ∷ rest.0, gathered_more w (without_bound item.0) ws (unmarked rest.0) item.1 rest.1)
 
 -- a text whose pieces are items spells a list
-pub list_of_items : (bounds : Bounds) (s : List ℕ) → All (IsItemOf bounds) (list_pieces s) → IsListOf bounds s
+pub list_of_items : (bounds : BoundRule) (s : List ℕ) → All (IsItemOf bounds) (list_pieces s) → IsListOf bounds s
 list_of_items Allowed s each = let found = gathered (list_pieces s) each in
     (found.0, list_of_words s found.0 found.1.each found.1.words)
 list_of_items Refused s each =
@@ -73,7 +73,7 @@ list_of_items Refused s each =
     (found.0, list_of_words s (unmarked found.0) found.1.each found.1.words)
 
 -- and one of which a piece is none doesn't
-pub no_list : (bounds : Bounds) (s : List ℕ) (i : ℕ) (w : List ℕ) → s ≢ codes "none" → i < length (list_pieces s)
+pub no_list : (bounds : BoundRule) (s : List ℕ) (i : ℕ) (w : List ℕ) → s ≢ codes "none" → i < length (list_pieces s)
     → w ≡ get_or (list_pieces s) i w → (IsItemOf bounds w → ⊥) → IsListOf bounds s → ⊥
 no_list Allowed s i w some within at refused list = refused (word_of_list s list.0 i w some list.1 within at)
 no_list Refused s i w some within at refused list =
@@ -91,12 +91,12 @@ pieces_split all front i w so_far within at =
     drop_at_one = rw (add-one, drop-cons all i w) refl
 
 -- the text `none` spells the empty list
-pub none_is_list_of : (bounds : Bounds) (s : List ℕ) → SpellsList s [] → IsListOf bounds s
+pub none_is_list_of : (bounds : BoundRule) (s : List ℕ) → SpellsList s [] → IsListOf bounds s
 none_is_list_of Allowed s empty = ([], empty)
 none_is_list_of Refused s empty = ([], empty)
 
 -- one more item
-pub items_more : (bounds : Bounds) (ys : List (Bor (List ℕ))) (w : Bor (List ℕ))
+pub items_more : (bounds : BoundRule) (ys : List (Bor (List ℕ))) (w : Bor (List ℕ))
     → All (IsItemOf bounds) (map (λ v. v.now) ys) → IsItemOf bounds w.now
     → All (IsItemOf bounds) (map (λ v. v.now) (ys ++ w ∷ []))
 items_more bounds ys w each item =
@@ -104,7 +104,7 @@ items_more bounds ys w each item =
     (All-push (IsItemOf bounds) (map (λ v. v.now) ys) w.now each item)
 
 -- the first faulty item, after items that are right
-pub mistake_at : (bounds : Bounds) (s : List ℕ) (ys : List (Bor (List ℕ))) (w : Bor (List ℕ)) (n : ℕ)
+pub mistake_at : (bounds : BoundRule) (s : List ℕ) (ys : List (Bor (List ℕ))) (w : Bor (List ℕ)) (n : ℕ)
     (fault : ItemFault)
     → s ≢ codes "none"
     → map (λ v. v.now) ys ≡ take (length ys) (list_pieces s) → length ys < length (list_pieces s)
@@ -126,7 +126,7 @@ pub none_found : (found : Option ListMistake) (b : Bool) → b ≡ is_some found
 none_found None b told is = refl
 none_found (Some m) b told is = absurd (false≢true (sym is ∙ told))
 
-pub found_is_none : (bounds : Bounds) (s : List ℕ) (found : Option ListMistake) (b : Bool) → b ≡ is_some found
+pub found_is_none : (bounds : BoundRule) (s : List ℕ) (found : Option ListMistake) (b : Bool) → b ≡ is_some found
     → b ≡ true
     → IfSome found (IsListMistake bounds s) → IsListOf bounds s → ⊥
 found_is_none bounds s None b told is h = absurd (false≢true (sym told ∙ is))

@@ -10,8 +10,8 @@ use Rattle.std.specs.List.{slice_split}
 use Rattle.ptb_answers.specs.declared.form.Marked.{Marked}
 use Rattle.ptb_answers.specs.AnswerText.{without_bound}
 use Rattle.ptb_options.specs.AnswerLists.{SpellsAnswers, SpellsItem, SpellsList}
-use Rattle.ptb_options.specs.declared.mistakes.Bounds.{Bounds}
-use Rattle.ptb_options.specs.declared.mistakes.Bounds.TheVariants.{Allowed, Refused}
+use Rattle.ptb_options.specs.declared.mistakes.BoundRule.{BoundRule}
+use Rattle.ptb_options.specs.declared.mistakes.BoundRule.TheVariants.{Allowed, Refused}
 use Rattle.ptb_options.specs.declared.mistakes.ItemFault.{ItemFault}
 use Rattle.ptb_options.specs.declared.mistakes.ItemFault.TheVariants.{HasBound, NotANumber}
 use Rattle.ptb_options.specs.declared.mistakes.ListMistake.{ListMistake}
@@ -19,11 +19,11 @@ use Rattle.ptb_options.specs.declared.mistakes.ListMistake.{ListMistake}
 abbrev pub list_pieces : List ℕ → List (List ℕ)
 list_pieces s = slice_split (λ b. b == 44) s
 
-abbrev pub IsItemOf : Bounds → List ℕ → Type 0
+abbrev pub IsItemOf : BoundRule → List ℕ → Type 0
 IsItemOf Allowed w = (m : Marked) × SpellsItem w m
 IsItemOf Refused w = (k : ℤ) × SpellsItem w (without_bound k)
 
-abbrev pub IsListOf : Bounds → List ℕ → Type 0
+abbrev pub IsListOf : BoundRule → List ℕ → Type 0
 IsListOf Allowed s = (list : List Marked) × SpellsList s list
 IsListOf Refused s = (a : List ℤ) × SpellsAnswers s a
 
@@ -32,12 +32,12 @@ abbrev pub HasFault : List ℕ → ItemFault → Type 0
 HasFault w NotANumber = (m : Marked) → SpellsItem w m → ⊥
 HasFault w HasBound = (m : Marked) × SpellsItem w m × IsSome m.bound
 
-pub record IsFault (bounds : Bounds) (w : List ℕ) (fault : ItemFault) : Type 0 where
+pub record IsFault (bounds : BoundRule) (w : List ℕ) (fault : ItemFault) : Type 0 where
   pub refused : IsItemOf bounds w → ⊥
   pub why : HasFault w fault
 
 -- the items before it are right, and items are counted from 1
-pub record IsListMistake (bounds : Bounds) (s : List ℕ) (m : ListMistake) : Type 0 where
+pub record IsListMistake (bounds : BoundRule) (s : List ℕ) (m : ListMistake) : Type 0 where
   pub not_list : IsListOf bounds s → ⊥
   pub before : List (List ℕ)
   pub after : List (List ℕ)

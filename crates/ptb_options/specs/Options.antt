@@ -34,8 +34,8 @@ use Rattle.ptb_answers.specs.declared.form.Form.TheVariants.{One, Two}
 use Rattle.ptb_answers.specs.declared.form.Marked.{Marked}
 use Rattle.ptb_options.specs.AnswerLists.{SpellsList, SpellsAnswers, IsMisspelled, HasNoAnswers}
 use Rattle.ptb_options.specs.ListMistakes.{IsListOf, IsListMistake}
-use Rattle.ptb_options.specs.declared.mistakes.Bounds.{Bounds}
-use Rattle.ptb_options.specs.declared.mistakes.Bounds.TheVariants.{Allowed, Refused}
+use Rattle.ptb_options.specs.declared.mistakes.BoundRule.{BoundRule}
+use Rattle.ptb_options.specs.declared.mistakes.BoundRule.TheVariants.{Allowed, Refused}
 use Rattle.ptb_options.specs.declared.mistakes.ListOption.{ListOption}
 use Rattle.ptb_options.specs.declared.mistakes.ListOption.TheVariants.{After, Answers, Under}
 use Rattle.ptb_options.specs.declared.mistakes.MisspelledList.{MisspelledList}
@@ -244,7 +244,7 @@ list_argument o After = o.after
 list_argument o Answers = o.answers
 
 -- a run is played by numbers alone, and named with their bounds or without
-abbrev pub bounds_for : ListOption → Bounds
+abbrev pub bounds_for : ListOption → BoundRule
 bounds_for Answers = Refused
 bounds_for _ = Allowed
 
@@ -255,7 +255,7 @@ abbrev pub IsMisspelledIn : Options → ListOption → Type 0
 IsMisspelledIn o x = IsSomeAnd (list_argument o x) (λ s. IsListOf (bounds_for x) s → ⊥)
 
 -- what is wrong with a list that may be left out
-abbrev pub HasMistake : Bounds → Option (List ℕ) → ListMistake → Type 0
+abbrev pub HasMistake : BoundRule → Option (List ℕ) → ListMistake → Type 0
 HasMistake bounds text m = IsSomeAnd text (λ s. IsListMistake bounds s m)
 
 -- the lists are looked at in this order

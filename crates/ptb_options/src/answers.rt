@@ -5,7 +5,7 @@ ghost use Rattle.ptb_options.specs.AnswerLists.{IsListFault, IsListRead, SpellsA
 ghost use Rattle.ptb_options.specs.ListMistakes.{IsListOf};
 
 use crate::items::ListItem;
-use crate::mistakes::{Bounds, list_mistake};
+use crate::mistakes::{BoundRule, list_mistake};
 use crate::usage::UsageFault;
 use ptb_answers::Marked;
 use std::alloc::Global;
@@ -60,7 +60,7 @@ impl<T> From<Vec<T>> for ItemList<T> {
 pub(crate) fn parse_list(alloc: Global, text: &str) -> Result<MarkedAnswers, UsageFault>
     ensures { IsListRead (SpellsList text.now) result }
 {
-    parse_as::<Marked>(alloc, text, Bounds::Allowed)
+    parse_as::<Marked>(alloc, text, BoundRule::Allowed)
 }
 
 /// The answers that a text spells: a list as [`parse_list`] reads it, without bounds.
@@ -72,7 +72,7 @@ pub(crate) fn parse_list(alloc: Global, text: &str) -> Result<MarkedAnswers, Usa
 pub(crate) fn parse_answers(alloc: Global, text: &str) -> Result<PlainAnswers, UsageFault>
     ensures { IsListRead (SpellsAnswers text.now) result }
 {
-    parse_as::<i16>(alloc, text, Bounds::Refused)
+    parse_as::<i16>(alloc, text, BoundRule::Refused)
 }
 
 // The list of items of this kind that a text spells. Whether an item may have a bound is said twice:
@@ -80,7 +80,7 @@ pub(crate) fn parse_answers(alloc: Global, text: &str) -> Result<PlainAnswers, U
 fn parse_as<T: ListItem>(
     alloc: Global,
     text: &str,
-    bounds: Bounds,
+    bounds: BoundRule,
 ) -> Result<ItemList<T>, UsageFault>
     ensures ok { IfOk result (λ items. SpellsList text.now (map T.marked items)) }
     ensures bad { result ≡ Err UsageFault.BadList → IsListOf bounds text.now

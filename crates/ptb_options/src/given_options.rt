@@ -7,7 +7,7 @@ ghost use Rattle.ptb_options.specs.Prelude.{IsListOf, HasBound, HasMistake, IsRu
 ghost use Rattle.ptb_options.specs.Prelude.{clash, clashes, entries_of, first_fault, form_of, is_given, options_of};
 ghost use Rattle.ptb_options.specs.Prelude.{ListOption};
 
-use crate::mistakes::{Bounds, ListMistake, ListOption, MisspelledList, list_mistake};
+use crate::mistakes::{BoundRule, ListMistake, ListOption, MisspelledList, list_mistake};
 use crate::request::DEFAULT_STEPS;
 use crate::usage::UsageFault;
 use clap::ArgMatches;
@@ -125,15 +125,15 @@ impl<'a> GivenOptions<'a> {
         ensures none { result ≡ None → (x : ListOption) → IsSpelled self.now x }
         ensures some { IfSome result (IsFirstMisspelled self.now) }
     {
-        if let Some(mistake) = mistake_in(self.under, Bounds::Allowed) {
+        if let Some(mistake) = mistake_in(self.under, BoundRule::Allowed) {
             let option = ListOption::Under;
             return Some(MisspelledList { option, mistake });
         }
-        if let Some(mistake) = mistake_in(self.after, Bounds::Allowed) {
+        if let Some(mistake) = mistake_in(self.after, BoundRule::Allowed) {
             let option = ListOption::After;
             return Some(MisspelledList { option, mistake });
         }
-        let mistake = mistake_in(self.answers, Bounds::Refused)?;
+        let mistake = mistake_in(self.answers, BoundRule::Refused)?;
         let option = ListOption::Answers;
         Some(MisspelledList { option, mistake })
     }
@@ -186,7 +186,7 @@ fn bound(number: Option<u16>) -> Option<i16>
 }
 
 // What is wrong with a list, if there is a text of one.
-fn mistake_in(text: Option<&str>, bounds: Bounds) -> Option<ListMistake<'_>>
+fn mistake_in(text: Option<&str>, bounds: BoundRule) -> Option<ListMistake<'_>>
     ensures none { result ≡ None → ForSome (option_copied text.entry) (IsListOf bounds) }
     ensures some { IfSome result (HasMistake bounds (option_copied text.entry)) }
 {

@@ -10,7 +10,7 @@ use thiserror::Error;
 
 /// Whether the items of a list may have bounds.
 #[derive(Clone, Copy)]
-pub(crate) enum Bounds {
+pub(crate) enum BoundRule {
     /// An item is a number, or a number with its bound, as `2/6`.
     Allowed,
     /// An item is a number alone.
@@ -78,7 +78,7 @@ pub struct MisspelledList<'a> {
 
 /// The first faulty item of a text that spells no list, and `None` where it spells one. Items are the
 /// texts between commas.
-pub(crate) fn list_mistake(text: &str, bounds: Bounds) -> Option<ListMistake<'_>>
+pub(crate) fn list_mistake(text: &str, bounds: BoundRule) -> Option<ListMistake<'_>>
     ensures none { result ≡ None → IsListOf bounds text.entry.now }
     ensures some { IfSome result (IsListMistake bounds text.entry.now) }
 {
@@ -100,7 +100,7 @@ pub(crate) fn list_mistake(text: &str, bounds: Bounds) -> Option<ListMistake<'_>
 }
 
 // What is wrong with the text of an item, if anything is.
-fn item_fault(piece: &str, bounds: Bounds) -> Option<ItemFault>
+fn item_fault(piece: &str, bounds: BoundRule) -> Option<ItemFault>
     ensures none { result ≡ None → IsItemOf bounds piece.now }
     ensures some { IfSome result (IsFault bounds piece.now) }
 {
@@ -108,8 +108,8 @@ fn item_fault(piece: &str, bounds: Bounds) -> Option<ItemFault>
         return Some(ItemFault::NotANumber);
     };
     match bounds {
-        Bounds::Allowed => None,
-        Bounds::Refused => {
+        BoundRule::Allowed => None,
+        BoundRule::Refused => {
             if item.bound.is_some() {
                 Some(ItemFault::HasBound)
             } else {
