@@ -3,7 +3,7 @@ pub mod PublicLemmas
 mod AnswerTexts
 mod ReadItems
 mod ItemWords
-mod ListFaults
+mod ListMistakes
 mod ListReturns
 mod KeptLists
 mod NumberRanges

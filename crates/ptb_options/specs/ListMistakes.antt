@@ -3,7 +3,7 @@
 --     list_pieces s                  the texts between the commas of s
 --     IsItemOf bounds w         the text w spells an item of a list with bounds, or without
 --     IsListOf bounds s         the text s spells such a list
---     IsFault bounds w f        the text w spells no such item, and why
+--     IsItemMistake bounds w m  the text w spells no such item, and why
 --     IsListMistake bounds s m    the text s spells no such list, and m is its first faulty item
 use Rattle.std.specs.Prelude.{◌≡◌, ℕ, ◌+◌, ◌==◌, List, ◌∷◌, ◌++◌, length, ℤ, All, IsSome}
 use Rattle.std.specs.List.{slice_split}
@@ -12,8 +12,8 @@ use Rattle.ptb_answers.specs.AnswerText.{without_bound}
 use Rattle.ptb_options.specs.AnswerLists.{SpellsAnswers, SpellsItem, SpellsList}
 use Rattle.ptb_options.specs.declared.mistakes.BoundRule.{BoundRule}
 use Rattle.ptb_options.specs.declared.mistakes.BoundRule.TheVariants.{Allowed, Refused}
-use Rattle.ptb_options.specs.declared.mistakes.ItemFault.{ItemFault}
-use Rattle.ptb_options.specs.declared.mistakes.ItemFault.TheVariants.{HasBound, NotANumber}
+use Rattle.ptb_options.specs.declared.mistakes.ItemMistake.{ItemMistake}
+use Rattle.ptb_options.specs.declared.mistakes.ItemMistake.TheVariants.{HasBound, NotANumber}
 use Rattle.ptb_options.specs.declared.mistakes.ListMistake.{ListMistake}
 
 abbrev pub list_pieces : List ℕ → List (List ℕ)
@@ -28,13 +28,13 @@ IsListOf Allowed s = (list : List Marked) × SpellsList s list
 IsListOf Refused s = (a : List ℤ) × SpellsAnswers s a
 
 -- an item with its bound is one, which some lists don't take
-abbrev pub HasFault : List ℕ → ItemFault → Type 0
-HasFault w NotANumber = (m : Marked) → SpellsItem w m → ⊥
-HasFault w HasBound = (m : Marked) × SpellsItem w m × IsSome m.bound
+abbrev pub HasItemMistake : List ℕ → ItemMistake → Type 0
+HasItemMistake w NotANumber = (m : Marked) → SpellsItem w m → ⊥
+HasItemMistake w HasBound = (m : Marked) × SpellsItem w m × IsSome m.bound
 
-pub record IsFault (bounds : BoundRule) (w : List ℕ) (fault : ItemFault) : Type 0 where
+pub record IsItemMistake (bounds : BoundRule) (w : List ℕ) (m : ItemMistake) : Type 0 where
   pub refused : IsItemOf bounds w → ⊥
-  pub why : HasFault w fault
+  pub why : HasItemMistake w m
 
 -- the items before it are right, and items are counted from 1
 pub record IsListMistake (bounds : BoundRule) (s : List ℕ) (m : ListMistake) : Type 0 where
@@ -44,4 +44,4 @@ pub record IsListMistake (bounds : BoundRule) (s : List ℕ) (m : ListMistake) :
   pub place : list_pieces s ≡ before ++ m.text.now ∷ after
   pub items : All (IsItemOf bounds) before
   pub counted : m.item ≡ length before + 1
-  pub fault : IsFault bounds m.text.now m.fault
+  pub mistake : IsItemMistake bounds m.text.now m.mistake

@@ -20,7 +20,7 @@ mod wrong_numbers;
 pub use answers::{ItemList, MarkedAnswers, PlainAnswers};
 pub use command_line::{parse, refusal_status};
 pub use decision::{decide, misspelled_list};
-pub use mistakes::{ItemFault, ListMistake, ListOption, MisspelledList};
+pub use mistakes::{ItemMistake, ListMistake, ListOption, MisspelledList};
 pub use request::{Mode, Request};
 pub use usage::UsageFault;
 pub use wrong_numbers::{NumberOption, WrongNumber, wrong_number};

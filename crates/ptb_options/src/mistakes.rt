@@ -1,7 +1,7 @@
 // This file finds what is wrong with a text that should spell a list of answers.
 
 ghost use Rattle.std.specs.Prelude.{◌≡◌, IfSome, Some, None};
-ghost use Rattle.ptb_options.specs.ListMistakes.{IsFault, IsItemOf, IsListOf, IsListMistake};
+ghost use Rattle.ptb_options.specs.ListMistakes.{IsItemMistake, IsItemOf, IsListOf, IsListMistake};
 ghost use Rattle.ptb_options.specs.Messages.{option_text};
 
 use crate::items::parse_item;
@@ -19,7 +19,7 @@ pub(crate) enum BoundRule {
 
 /// Why a text is no item of a list.
 #[derive(Clone, Copy, Debug, PartialEq, Eq, Error)]
-pub enum ItemFault {
+pub enum ItemMistake {
     /// It is neither a number from 1 to 32767, in decimals without leading zeros, nor such a number
     /// with such a bound.
     #[error("is not a number from 1 to 32767")]
@@ -32,14 +32,14 @@ pub enum ItemFault {
 /// The first faulty item of a text that spells no list. It is displayed as
 /// `item 2 (" 2") is not a number from 1 to 32767`.
 #[derive(Clone, Copy, Debug, PartialEq, Eq, Error)]
-#[error("item {item} ({text:?}) {fault}")]
+#[error("item {item} ({text:?}) {mistake}")]
 pub struct ListMistake<'a> {
     /// The place of the item in the list, from 1.
     pub item: usize,
     /// The text of the item.
     pub text: &'a str,
     /// What is wrong with it.
-    pub fault: ItemFault,
+    pub mistake: ItemMistake,
 }
 
 /// An option that takes a list. It is displayed as it is written, `--after`.
@@ -88,11 +88,11 @@ pub(crate) fn list_mistake(text: &str, bounds: BoundRule) -> Option<ListMistake<
     let mut item = 0;
     for piece in text.split(',') {
         item += 1;
-        if let Some(fault) = item_fault(piece, bounds) {
+        if let Some(mistake) = item_mistake(piece, bounds) {
             return Some(ListMistake {
                 item,
                 text: piece,
-                fault,
+                mistake,
             });
         }
     }
@@ -100,18 +100,18 @@ pub(crate) fn list_mistake(text: &str, bounds: BoundRule) -> Option<ListMistake<
 }
 
 // What is wrong with the text of an item, if anything is.
-fn item_fault(piece: &str, bounds: BoundRule) -> Option<ItemFault>
+fn item_mistake(piece: &str, bounds: BoundRule) -> Option<ItemMistake>
     ensures none { result ≡ None → IsItemOf bounds piece.now }
-    ensures some { IfSome result (IsFault bounds piece.now) }
+    ensures some { IfSome result (IsItemMistake bounds piece.now) }
 {
     let Some(item) = parse_item(piece) else {
-        return Some(ItemFault::NotANumber);
+        return Some(ItemMistake::NotANumber);
     };
     match bounds {
         BoundRule::Allowed => None,
         BoundRule::Refused => {
             if item.bound.is_some() {
-                Some(ItemFault::HasBound)
+                Some(ItemMistake::HasBound)
             } else {
                 None
             }

@@ -7,8 +7,8 @@ use crate::tests::shared::{
 use clap::error::ErrorKind;
 use ptb_explore::{Form, Marked};
 use ptb_options::{
-    ItemFault, ListMistake, ListOption, MarkedAnswers, MisspelledList, Mode, PlainAnswers, Request,
-    UsageFault, decide, misspelled_list, parse, refusal_status, wrong_number,
+    ItemMistake, ListMistake, ListOption, MarkedAnswers, MisspelledList, Mode, PlainAnswers,
+    Request, UsageFault, decide, misspelled_list, parse, refusal_status, wrong_number,
 };
 use std::alloc::{AllocError, Global};
 use std::process::Abort;
@@ -400,7 +400,7 @@ impl Row<Global> for NoList {
     }
 }
 
-const NO_NUMBER: ItemFault = ItemFault::NotANumber;
+const NO_NUMBER: ItemMistake = ItemMistake::NotANumber;
 
 // The arguments that give an option this list.
 fn arguments_with(option: ListOption, list: &str) -> [&str; 4] {
@@ -413,12 +413,16 @@ fn arguments_with(option: ListOption, list: &str) -> [&str; 4] {
 
 // A text that spells no list, the option that it is given to, and its first faulty item: its place, its
 // text, what is wrong.
-struct Misspelled(&'static str, ListOption, usize, &'static str, ItemFault);
+struct Misspelled(&'static str, ListOption, usize, &'static str, ItemMistake);
 
 impl Row<Global> for Misspelled {
     fn holds(&self, alloc: &Global) -> bool {
-        let Misspelled(list, option, item, text, fault) = *self;
-        let mistake = ListMistake { item, text, fault };
+        let Misspelled(list, option, item, text, mistake) = *self;
+        let mistake = ListMistake {
+            item,
+            text,
+            mistake,
+        };
         let arguments = arguments_with(option, list);
         match parse(*alloc, arguments.as_slice()) {
             Ok(matches) => misspelled_list(&matches) == Some(MisspelledList { option, mistake }),
@@ -439,8 +443,8 @@ const MISTAKES: &[Misspelled] = table! { Misspelled:
     ("1,", ListOption::Answers, 2, "", NO_NUMBER),
     ("x,1/3", ListOption::Answers, 1, "x", NO_NUMBER),
     ("1/0", ListOption::Answers, 1, "1/0", NO_NUMBER),
-    ("1/3", ListOption::Answers, 1, "1/3", ItemFault::HasBound),
-    ("2,1/3,x", ListOption::Answers, 2, "1/3", ItemFault::HasBound),
+    ("1/3", ListOption::Answers, 1, "1/3", ItemMistake::HasBound),
+    ("2,1/3,x", ListOption::Answers, 2, "1/3", ItemMistake::HasBound),
 };
 
 // Arguments, and the line that says which list is misspelled, if one is.

@@ -3,7 +3,7 @@ use Rattle.std.proofs.Common.{subst, sym}
 use Rattle.std.specs.Prelude.{map}
 use Rattle.ptb_options.specs.AnswerLists.{SpellsList}
 use Rattle.ptb_options.specs.declared.usage.UsageFault.TheVariants.{BadList, Memory}
-use Rattle.ptb_options.proofs.ListFaults.{found_is_none, none_found}
+use Rattle.ptb_options.proofs.ListMistakes.{found_is_none, none_found}
 use Rattle.ptb_options.proofs.ListReturns.{passed_on, read_is_bad, read_is_memory, refused_as_list, refused_is_read}
 use Rattle.ptb_options.proofs.answers.parse_as.Goals as goal
 

@@ -9,7 +9,7 @@ use Rattle.std.proofs.lemmas.List.Splits.{length-slice_split}
 use Rattle.std.proofs.lemmas.List.Sums.{count_by-le-length}
 use Rattle.std.proofs.lemmas.Iterator.Consumers.{YieldsList-end, YieldsList-so_far, YieldsList-turn}
 use Rattle.ptb_options.proofs.ItemWords.{words_of}
-use Rattle.ptb_options.proofs.ListFaults.{items_more, list_of_items, mistake_at, none_is_list_of}
+use Rattle.ptb_options.proofs.ListMistakes.{items_more, list_of_items, mistake_at, none_is_list_of}
 use Rattle.ptb_options.proofs.ListReturns.{none_spelled, some_text}
 use Rattle.ptb_options.proofs.mistakes.list_mistake.Goals as goal
 use Rattle.ptb_options.proofs.mistakes.list_mistake.Goals.{After-next}
@@ -39,20 +39,20 @@ pub loop-piece-preserved : goal.loop-piece-preserved
 loop-piece-preserved c = record {
   items =
       items_more c.args.bounds c.loop-piece.yielded c.in-Some.piece c.loop-piece.invariant.items
-      (c.item_fault.ensures.none c.in_default.is);
+      (c.item_mistake.ensures.none c.in_default.is);
   counted = omega (arith, length-append c.loop-piece.yielded (c.in-Some.piece ∷ []), c.loop-piece.invariant.counted);
 }
 
-pub returns-in-Some-item_fault-clause-some : goal.returns-in-Some-item_fault-clause-some
-returns-in-Some-item_fault-clause-some c =
+pub returns-in-Some-item_mistake-clause-some : goal.returns-in-Some-item_mistake-clause-some
+returns-in-Some-item_mistake-clause-some c =
     let text = c.args.text.now in
-    let all = pieces (goal.at.returns-in-Some-item_fault-clause-some c).After-next in
+    let all = pieces (goal.at.returns-in-Some-item_mistake-clause-some c).After-next in
     let turn = YieldsList-turn all c.loop-piece.yielded _ c.loop-piece.yielded_by _ _ c.in-Some.piece c.in-Some.is
     c.next.ensures.steps in
     let so_far = YieldsList-so_far all c.loop-piece.yielded _ c.loop-piece.yielded_by in
-    mistake_at c.args.bounds text c.loop-piece.yielded c.in-Some.piece c.loop-piece.item c.in-Some-item_fault.fault
+    mistake_at c.args.bounds text c.loop-piece.yielded c.in-Some.piece c.loop-piece.item c.in-Some-item_mistake.mistake
     (some_text text c.eq.result c.eq.ensures c.if-eq.false)
-    so_far turn.0 turn.1 c.loop-piece.invariant.items c.loop-piece.invariant.counted c.in-Some-item_fault.ensures.some
+    so_far turn.0 turn.1 c.loop-piece.invariant.items c.loop-piece.invariant.counted c.in-Some-item_mistake.ensures.some
 
 pub returns-clause-none : goal.returns-clause-none
 returns-clause-none c _ =

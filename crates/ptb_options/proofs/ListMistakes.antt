@@ -11,18 +11,19 @@ use Rattle.std.specs.Borrow.{Bor}
 use Rattle.ptb_answers.specs.declared.form.Marked.{Marked}
 use Rattle.ptb_answers.specs.AnswerText.{item_text, unmarked, without_bound}
 use Rattle.ptb_options.specs.AnswerLists.{IsItem, SpellsItem, SpellsList}
-use Rattle.ptb_options.specs.ListMistakes.{IsFault, IsItemOf, IsListOf, IsListMistake, list_pieces}
+use Rattle.ptb_options.specs.ListMistakes.{IsItemMistake, IsItemOf, IsListOf, IsListMistake, list_pieces}
 use Rattle.ptb_options.specs.declared.mistakes.BoundRule.{BoundRule}
 use Rattle.ptb_options.specs.declared.mistakes.BoundRule.TheVariants.{Allowed, Refused}
 use Rattle.ptb_options.specs.declared.mistakes.ListMistake.{ListMistake}
-use Rattle.ptb_options.specs.declared.mistakes.ItemFault.{ItemFault}
-use Rattle.ptb_options.specs.declared.mistakes.ItemFault.TheVariants.{HasBound, NotANumber}
+use Rattle.ptb_options.specs.declared.mistakes.ItemMistake.{ItemMistake}
+use Rattle.ptb_options.specs.declared.mistakes.ItemMistake.TheVariants.{HasBound, NotANumber}
 use Rattle.ptb_options.proofs.AnswerTexts.{list_of_words, one_item, word_of_items, word_of_list}
 
 -- ---- one item
 
 -- a text that is no item, with a bound or without
-pub no_item : (bounds : BoundRule) (w : List ℕ) → ((m : Marked) → SpellsItem w m → ⊥) → IsFault bounds w NotANumber
+pub no_item : (bounds : BoundRule) (w : List ℕ) → ((m : Marked) → SpellsItem w m → ⊥)
+    → IsItemMistake bounds w NotANumber
 no_item Allowed w none = record { refused = λ item. none item.0 item.1; why = none }
 no_item Refused w none = record { refused = λ item. none (without_bound item.0) item.1; why = none }
 
@@ -30,7 +31,7 @@ bound_is : (m : Marked) (k : ℤ) → m ≡ without_bound k → IsSome m.bound �
 bound_is m k e has = false≢true (sym (ap (λ (j : Marked). is_some j.bound) e) ∙ has)
 
 -- an item with its bound, where it may have none
-pub marked_item : (w : List ℕ) (m : Marked) → SpellsItem w m → IsSome m.bound → IsFault Refused w HasBound
+pub marked_item : (w : List ℕ) (m : Marked) → SpellsItem w m → IsSome m.bound → IsItemMistake Refused w HasBound
 marked_item w m spells has = record {
   refused =
       λ item. bound_is m item.0 (one_item m (without_bound item.0) spells.0 item.1.0 (spells.1 ∙ sym item.1.1)) has;
@@ -105,20 +106,20 @@ items_more bounds ys w each item =
 
 -- the first faulty item, after items that are right
 pub mistake_at : (bounds : BoundRule) (s : List ℕ) (ys : List (Bor (List ℕ))) (w : Bor (List ℕ)) (n : ℕ)
-    (fault : ItemFault)
+    (mistake : ItemMistake)
     → s ≢ codes "none"
     → map (λ v. v.now) ys ≡ take (length ys) (list_pieces s) → length ys < length (list_pieces s)
     → w.now ≡ get_or (list_pieces s) (length ys) w.now
-    → All (IsItemOf bounds) (map (λ v. v.now) ys) → n ≡ length ys → IsFault bounds w.now fault
-    → IsListMistake bounds s (record { item = n + 1; text = w; fault = fault })
-mistake_at bounds s ys w n fault some so_far within at each counted faulty = record {
+    → All (IsItemOf bounds) (map (λ v. v.now) ys) → n ≡ length ys → IsItemMistake bounds w.now mistake
+    → IsListMistake bounds s (record { item = n + 1; text = w; mistake = mistake })
+mistake_at bounds s ys w n mistake some so_far within at each counted faulty = record {
   not_list = no_list bounds s (length ys) w.now some within at faulty.refused;
   before = map (λ v. v.now) ys;
   after = drop (length ys + 1) (list_pieces s);
   place = pieces_split (list_pieces s) (map (λ v. v.now) ys) (length ys) w.now so_far within at;
   items = each;
   counted = ap (λ (k : ℕ). k + 1) (counted ∙ sym (length-map ys (λ (v : Bor (List ℕ)). v.now)));
-  fault = faulty;
+  mistake = faulty;
 }
 
 -- whether a mistake was found

@@ -1,8 +1,8 @@
 -- This file answers why the text of an item is refused.
 use Rattle.std.proofs.Common.{◌∙◌, sym}
 use Rattle.std.proofs.lemmas.Option.{none-some}
-use Rattle.ptb_options.proofs.ListFaults.{marked_item, no_item}
-use Rattle.ptb_options.proofs.mistakes.item_fault.Goals as goal
+use Rattle.ptb_options.proofs.ListMistakes.{marked_item, no_item}
+use Rattle.ptb_options.proofs.mistakes.item_mistake.Goals as goal
 
 pub returns-in_default-clause-some : goal.returns-in_default-clause-some
 returns-in_default-clause-some c =
