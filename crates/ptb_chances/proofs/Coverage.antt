@@ -115,42 +115,42 @@ module _ (p : StoredProgram) (input : List (List ℕ)) (rules : Rules) (most : �
   CoveredBy w done ws = (qs : List Answers) × CountsFor p input rules w qs
       × Covers p input rules most (below p input rules most qs ++ done) ws
 
-  out_of : (front back : List WaitingPlay) (w : WaitingPlay) (done : List Answers)
-      → Covers p input rules most done (front ++ w ∷ back) → CoveredBy w done (front ++ back)
-  out_of [] back w done c = c
-  out_of (f ∷ front) back w done c =
+  out_of : (prefix suffix : List WaitingPlay) (w : WaitingPlay) (done : List Answers)
+      → Covers p input rules most done (prefix ++ w ∷ suffix) → CoveredBy w done (prefix ++ suffix)
+  out_of [] suffix w done c = c
+  out_of (f ∷ prefix) suffix w done c =
       let first = below p input rules most c.0 in
-      let rest : CoveredBy w (first ++ done) (front ++ back) = out_of front back w (first ++ done) c.2 in
+      let rest : CoveredBy w (first ++ done) (prefix ++ suffix) = out_of prefix suffix w (first ++ done) c.2 in
       let second = below p input rules most rest.0 in (
         rest.0,
         rest.1,
         (
           c.0,
           c.1,
-          covers_alike (front ++ back) (second ++ (first ++ done)) (first ++ (second ++ done))
+          covers_alike (prefix ++ suffix) (second ++ (first ++ done)) (first ++ (second ++ done))
               (front_turned game second first done) rest.2,
         ),
       )
 
-  into : (front back : List WaitingPlay) (w : WaitingPlay) (qs done : List Answers) → CountsFor p input rules w qs
-      → Covers p input rules most (below p input rules most qs ++ done) (front ++ back)
-      → Covers p input rules most done (front ++ w ∷ back)
-  into [] back w qs done s c = (qs, s, c)
-  into (f ∷ front) back w qs done s c =
+  into : (prefix suffix : List WaitingPlay) (w : WaitingPlay) (qs done : List Answers) → CountsFor p input rules w qs
+      → Covers p input rules most (below p input rules most qs ++ done) (prefix ++ suffix)
+      → Covers p input rules most done (prefix ++ w ∷ suffix)
+  into [] suffix w qs done s c = (qs, s, c)
+  into (f ∷ prefix) suffix w qs done s c =
       let first = below p input rules most c.0 in
       let own = below p input rules most qs in (
         c.0,
         c.1,
-        into front back w qs (first ++ done) s (covers_alike (front ++ back) (first ++ (own ++ done))
+        into prefix suffix w qs (first ++ done) s (covers_alike (prefix ++ suffix) (first ++ (own ++ done))
             (own ++ (first ++ done)) (front_turned game first own done) c.2),
       )
 
   pub taken_out : (old new : List WaitingPlay) (w : WaitingPlay) (done : List Answers) → Takes old w new
       → Covers p input rules most done old → CoveredBy w done new
   taken_out old new w done t c =
-      let there : Covers p input rules most done (t.front ++ w ∷ t.back) =
+      let there : Covers p input rules most done (t.prefix ++ w ∷ t.suffix) =
       subst (λ (ws : List WaitingPlay). Covers p input rules most done ws) t.old_is c in
-      let rest = out_of t.front t.back w done there in (
+      let rest = out_of t.prefix t.suffix w done there in (
         rest.0,
         rest.1,
         subst (λ (ws : List WaitingPlay). Covers p input rules most
@@ -161,10 +161,10 @@ module _ (p : StoredProgram) (input : List (List ℕ)) (rules : Rules) (most : �
       → CountsFor p input rules w qs → Covers p input rules most (below p input rules most qs ++ done) old
       → Covers p input rules most done new
   put_in old new w qs done t s c =
-      let there : Covers p input rules most (below p input rules most qs ++ done) (t.front ++ t.back) = subst
+      let there : Covers p input rules most (below p input rules most qs ++ done) (t.prefix ++ t.suffix) = subst
       (λ (ws : List WaitingPlay). Covers p input rules most (below p input rules most qs ++ done) ws) t.new_is c in
       subst (λ (ws : List WaitingPlay). Covers p input rules most done ws) (sym t.old_is)
-      (into t.front t.back w qs done s there)
+      (into t.prefix t.suffix w qs done s there)
 
   -- ---- plays in one state
 

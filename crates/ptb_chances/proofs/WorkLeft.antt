@@ -34,14 +34,14 @@ power_less m (suc n) less =
     omega (arith, rises, some)
 
 module _ (limit most : ℕ) where
-  work_split : (front back : List WaitingPlay) (w : WaitingPlay)
-      → work_left limit most (front ++ w ∷ back) ≡ work_of limit most w + work_left limit most (front ++ back)
-  work_split [] back w = refl
-  work_split (f ∷ front) back w = let rest = work_split front back w in omega (arith, rest)
+  work_split : (prefix suffix : List WaitingPlay) (w : WaitingPlay)
+      → work_left limit most (prefix ++ w ∷ suffix) ≡ work_of limit most w + work_left limit most (prefix ++ suffix)
+  work_split [] suffix w = refl
+  work_split (f ∷ prefix) suffix w = let rest = work_split prefix suffix w in omega (arith, rest)
 
   pub work_taken : (old new : List WaitingPlay) (w : WaitingPlay) → Takes old w new
       → work_left limit most old ≡ work_of limit most w + work_left limit most new
-  work_taken old new w t = ap (work_left limit most) t.old_is ∙ work_split t.front t.back w
+  work_taken old new w t = ap (work_left limit most) t.old_is ∙ work_split t.prefix t.suffix w
       ∙ ap (λ ws. work_of limit most w + work_left limit most ws) (sym t.new_is)
 
   pub work_some : (w : WaitingPlay) (ws : List WaitingPlay) → work_left limit most ws < work_left limit most (w ∷ ws)

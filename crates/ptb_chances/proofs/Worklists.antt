@@ -22,8 +22,8 @@ pub takes_last : {A : Type 0} (f : A → WaitingPlay) (xs ys : List A) (x : A) (
     → ys ≡ xs ++ x ∷ []
     → Takes (map f ys ++ rest) (f x) (map f xs ++ rest)
 takes_last f xs ys x rest is = record {
-  front = map f xs;
-  back = rest;
+  prefix = map f xs;
+  suffix = rest;
   old_is = ap (λ zs. map f zs ++ rest) is ∙ map_last f xs x rest;
   new_is = refl;
 }
@@ -31,17 +31,17 @@ takes_last f xs ys x rest is = record {
 -- after others
 pub takes_after : (us old new : List WaitingPlay) (w : WaitingPlay) → Takes old w new → Takes (us ++ old) w (us ++ new)
 takes_after us old new w t = record {
-  front = us ++ t.front;
-  back = t.back;
-  old_is = ap (λ ws. us ++ ws) t.old_is ∙ sym (append_assoc us t.front (w ∷ t.back));
-  new_is = ap (λ ws. us ++ ws) t.new_is ∙ sym (append_assoc us t.front t.back);
+  prefix = us ++ t.prefix;
+  suffix = t.suffix;
+  old_is = ap (λ ws. us ++ ws) t.old_is ∙ sym (append_assoc us t.prefix (w ∷ t.suffix));
+  new_is = ap (λ ws. us ++ ws) t.new_is ∙ sym (append_assoc us t.prefix t.suffix);
 }
 
 takes_under : (f : WaitingPlay) (old new : List WaitingPlay) (w : WaitingPlay) → Takes old w new
     → Takes (f ∷ old) w (f ∷ new)
 takes_under f old new w t = record {
-  front = f ∷ t.front;
-  back = t.back;
+  prefix = f ∷ t.prefix;
+  suffix = t.suffix;
   old_is = ap (λ ws. f ∷ ws) t.old_is;
   new_is = ap (λ ws. f ∷ ws) t.new_is;
 }
@@ -49,7 +49,7 @@ takes_under f old new w t = record {
 module _ (order : ℕ → ℕ → Ordering) (key : ℕ) where
   pub inserted : (v : Waiting) (es : List (ℕ × Waiting)) → lookup (is_at (order key)) es ≡ None
       → Takes (map in_map (insert_entry order es key v)) (unplanned v) (map in_map es)
-  inserted v [] none = record { front = []; back = []; old_is = refl; new_is = refl }
+  inserted v [] none = record { prefix = []; suffix = []; old_is = refl; new_is = refl }
   inserted v (e ∷ es) none = by_order (inserted v es) (order key e.0) none
     where
       by_order : (lookup (is_at (order key)) es ≡ None
@@ -57,7 +57,7 @@ module _ (order : ℕ → ℕ → Ordering) (key : ℕ) where
           → (o : Ordering) → cond (is_eq o) (Some e.1) (lookup (is_at (order key)) es) ≡ None
           → Takes (map in_map (match_ordering o ((key, v) ∷ e ∷ es) ((e.0, v) ∷ es) (e ∷ insert_entry order es key v)))
           (unplanned v) (in_map e ∷ map in_map es)
-      by_order later Less h = record { front = []; back = in_map e ∷ map in_map es; old_is = refl; new_is = refl }
+      by_order later Less h = record { prefix = []; suffix = in_map e ∷ map in_map es; old_is = refl; new_is = refl }
       by_order later Equal h = absurd cc
       by_order later Greater h = takes_under (in_map e) (map in_map (insert_entry order es key v)) (map in_map es)
           (unplanned v) (later h)
@@ -74,7 +74,7 @@ module _ (order : ℕ → ℕ → Ordering) (key : ℕ) where
           → (b : Bool) → cond b (Some e.1) (lookup (is_at (order key)) es) ≡ Some v
           → Takes (map in_map (cond b ((e.0, w) ∷ es) (e ∷ set_value (is_at (order key)) es w))) (unplanned w)
           (map in_map (cond b es (e ∷ remove_entry (is_at (order key)) es)))
-      by_test later true h = record { front = []; back = map in_map es; old_is = refl; new_is = refl }
+      by_test later true h = record { prefix = []; suffix = map in_map es; old_is = refl; new_is = refl }
       by_test later false h = takes_under (in_map e) (map in_map (set_value (is_at (order key)) es w))
           (map in_map (remove_entry (is_at (order key)) es)) (unplanned w) (later h)
 

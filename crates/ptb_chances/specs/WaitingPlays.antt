@@ -133,10 +133,10 @@ module _ (p : StoredProgram) (input : List (List ℕ)) (rules : Rules) where
 -- ---- taking out and putting in
 
 pub record Takes (old : List WaitingPlay) (w : WaitingPlay) (new : List WaitingPlay) : Type 0 where
-  pub front : List WaitingPlay
-  pub back : List WaitingPlay
-  pub old_is : old ≡ front ++ w ∷ back
-  pub new_is : new ≡ front ++ back
+  pub prefix : List WaitingPlay
+  pub suffix : List WaitingPlay
+  pub old_is : old ≡ prefix ++ w ∷ suffix
+  pub new_is : new ≡ prefix ++ suffix
 
 pub record SamePlace (v u : WaitingPlay) : Type 0 where
   pub machine : v.machine ≡ u.machine

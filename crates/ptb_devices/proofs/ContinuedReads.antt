@@ -169,7 +169,7 @@ pub ReadsOn_line : (wanted : ℕ) (m : InputNow) (b : InputState) → m.state.is
     → ReadsOn wanted m (kept_bytes b.piece ∷ []) (record m { state = b })
 ReadsOn_line wanted m b kept cuts =
     subst (λ (s : InputState). ReadsOn wanted m (kept_bytes b.piece ∷ []) (record m { state = s })) (sym cuts.rest)
-    (ReadsOn_cut wanted m true b.piece cuts.front b.waiting (kept_bytes b.piece ∷ []) kept cuts.whole cuts.cut
+    (ReadsOn_cut wanted m true b.piece cuts.prefix b.waiting (kept_bytes b.piece ∷ []) kept cuts.whole cuts.cut
     (omega (arith, cuts.some)) (asked_one m.state.end m.state.is_given true))
 
 -- a line is given where it is, and not kept
@@ -179,10 +179,10 @@ ReadsOn_whole wanted m line b kept takes =
     let same : record m.state { piece = None; is_given = false; waiting = b.waiting } ≡ b =
     ap (λ p. record m.state { piece = p; is_given = false; waiting = b.waiting }) (sym takes.unstarted)
     ∙ ap (λ t. record m.state { is_given = t; waiting = b.waiting }) (sym kept) ∙ sym takes.rest in
-    let cut : Cuts m.state.piece takes.front (line ∷ []) None =
-    subst (λ p. Cuts p takes.front (line ∷ []) None) (sym takes.unstarted) takes.cut in
+    let cut : Cuts m.state.piece takes.prefix (line ∷ []) None =
+    subst (λ p. Cuts p takes.prefix (line ∷ []) None) (sym takes.unstarted) takes.cut in
     subst (λ (s : InputState). ReadsOn wanted m (line ∷ []) (record m { state = s })) same
-    (ReadsOn_cut wanted m false None takes.front b.waiting (line ∷ []) kept takes.whole cut (omega (arith, takes.some))
+    (ReadsOn_cut wanted m false None takes.prefix b.waiting (line ∷ []) kept takes.whole cut (omega (arith, takes.some))
     (asked_one m.state.end m.state.is_given false))
 
 -- where no line ends, a piece begins at most where there are bytes

@@ -213,9 +213,9 @@ KeepsUpTo_end bytes i inside e before =
 -- of these bytes, those before the rest were taken, and the lines that they end were added
 pub record AddsUpTo (p : Option (List ℕ)) (bytes rest : List ℕ) (old new : List (List ℕ))
     (q : Option (List ℕ)) : Type 0 where
-  pub front : List ℕ
-  pub whole : bytes ≡ front ++ rest
-  pub adds : AddsLines p front old new q
+  pub prefix : List ℕ
+  pub whole : bytes ≡ prefix ++ rest
+  pub adds : AddsLines p prefix old new q
 
 pub AddsLines_more : (p q r : Option (List ℕ)) (xs ys : List ℕ) (old mid given : List (List ℕ))
     → AddsLines p xs old mid q → Cuts q ys given r
@@ -232,18 +232,18 @@ pub AddsUpTo_more : (p q : Option (List ℕ)) (bytes rest : List ℕ) (old new :
 AddsUpTo_more p q bytes rest old new n m line size before ends =
     let all : take m (drop n rest) ≡ drop n rest = take_all m (drop n rest) (omega (arith, length-drop n rest)) in
     record {
-      front = before.front ++ take n rest;
-      whole = before.whole ∙ ap (λ l. before.front ++ l) (sym (take-append-drop n rest)
+      prefix = before.prefix ++ take n rest;
+      whole = before.whole ∙ ap (λ l. before.prefix ++ l) (sym (take-append-drop n rest)
           ∙ ap (λ l. take n rest ++ l) (sym all))
-          ∙ sym (append_assoc before.front (take n rest) (take m (drop n rest)));
-      adds = AddsLines_more p q None before.front (take n rest) old new (line ∷ []) before.adds ends;
+          ∙ sym (append_assoc before.prefix (take n rest) (take m (drop n rest)));
+      adds = AddsLines_more p q None before.prefix (take n rest) old new (line ∷ []) before.adds ends;
     }
 
 pub AddsUpTo_all : (p q r : Option (List ℕ)) (bytes rest : List ℕ) (old new : List (List ℕ))
     → AddsUpTo p bytes rest old new q → Cuts q rest [] r
     → AddsLines p bytes old new r
 AddsUpTo_all p q r bytes rest old new before part =
-    let all = AddsLines_more p q r before.front rest old new [] before.adds part in
+    let all = AddsLines_more p q r before.prefix rest old new [] before.adds part in
     subst (λ (l : List ℕ). AddsLines p l old new r) (sym before.whole) (sym (append-nil new) ∙ all.0, all.1)
 
 -- ---- a byte 13 in front of a byte 10 is no exception

@@ -98,10 +98,10 @@ most_lines a = most_to_come a.end a.left + length a.waiting + length (line_of_pi
 
 -- one line was cut, and is given
 pub record CutsLine (a b : InputState) : Type 0 where
-  pub front : List ℕ
-  pub whole : a.waiting ≡ front ++ b.waiting
-  pub some : 0 < length front
-  pub cut : Cuts a.piece front (kept_bytes b.piece ∷ []) None
+  pub prefix : List ℕ
+  pub whole : a.waiting ≡ prefix ++ b.waiting
+  pub some : 0 < length prefix
+  pub cut : Cuts a.piece prefix (kept_bytes b.piece ∷ []) None
   pub rest : b ≡ record a { piece = b.piece; is_given = true; waiting = b.waiting }
 
 -- all was cut, and it ended no line
@@ -111,11 +111,11 @@ pub record CutsAll (a b : InputState) : Type 0 where
 
 -- no piece had begun, and the line is all that the bytes in front of its end are
 pub record TakesLine (a : InputState) (line : List ℕ) (b : InputState) : Type 0 where
-  pub front : List ℕ
-  pub whole : a.waiting ≡ front ++ b.waiting
-  pub some : 0 < length front
+  pub prefix : List ℕ
+  pub whole : a.waiting ≡ prefix ++ b.waiting
+  pub some : 0 < length prefix
   pub unstarted : a.piece ≡ None
-  pub cut : IsLine line front
+  pub cut : IsLine line prefix
   pub rest : b ≡ record a { waiting = b.waiting }
 
 abbrev pub TakesWhole : InputState → Option (Bor (List ℕ)) → InputState → Type 0

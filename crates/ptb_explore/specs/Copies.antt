@@ -77,13 +77,13 @@ pub record GoesBack (most : ℕ) (old new : List KeptCopy) : Type 0 where
 abbrev pub GoesBackTo : ℕ → List KeptCopy → List KeptCopy → Option KeptCopy → Type 0
 GoesBackTo most old new None = GoesBack most old [] × (new ≡ [])
 GoesBackTo most old new (Some j) =
-    GoesBack most old new × ((front : List KeptCopy) × (k : KeptCopy) × (new ≡ front ++ k ∷ []) × (k.taken ≤ most)
+    GoesBack most old new × ((prefix : List KeptCopy) × (k : KeptCopy) × (new ≡ prefix ++ k ∷ []) × (k.taken ≤ most)
     × IsSameCopy k j)
 
 -- the same, of what is left alone
 abbrev pub WentBack : ℕ → List KeptCopy → List KeptCopy → Type 0
 WentBack most old left = GoesBack most old left
-    × ((left ≡ []) ⊎ ((front : List KeptCopy) × (k : KeptCopy) × (left ≡ front ++ k ∷ []) × (k.taken ≤ most)))
+    × ((left ≡ []) ⊎ ((prefix : List KeptCopy) × (k : KeptCopy) × (left ≡ prefix ++ k ∷ []) × (k.taken ≤ most)))
 
 -- the steps of the newest, or of none
 abbrev pub last_steps_of : ℕ → List KeptCopy → ℕ

@@ -27,12 +27,12 @@ pub record TreeLaws {A W : Type 0} (play : Answers → Outcome A W) (most : ℕ)
 pub record ListingLaws {A W : Type 0} (play : Answers → Outcome A W) (most : ℕ) : Type 0 where
   -- after a run come those that the tree has after it
   pub following :
-      (front back : List Answers) (r : Answers) → tree play most ≡ front ++ r ∷ back
-      → runs_after play most [] (At r) ≡ back
+      (prefix rest : List Answers) (r : Answers) → tree play most ≡ prefix ++ r ∷ rest
+      → runs_after play most [] (At r) ≡ rest
   -- so the reports up to a run, and those after it, are all reports
   pub whole_text :
-      (report : Answers → List ℕ) (front back : List Answers) (r : Answers) → tree play most ≡ front ++ r ∷ back
-      → text report (front ++ r ∷ []) ++ text report (runs_after play most [] (At r)) ≡ text report (tree play most)
+      (report : Answers → List ℕ) (prefix rest : List Answers) (r : Answers) → tree play most ≡ prefix ++ r ∷ rest
+      → text report (prefix ++ r ∷ []) ++ text report (runs_after play most [] (At r)) ≡ text report (tree play most)
   -- what a listing has left are the runs after the place where it is and nothing else, in rising order
   pub runs : (under : Answers) (f : Front) (a : Answers)
       → Contains (runs_after play most under f) a ↔ (IsRun play a × (is_left under f a ≡ true))

@@ -4,7 +4,7 @@
 --     marked_of kept             the item that is kept
 --     marked_items kept            the items that are kept
 --     AreEnds kept             each item has the number of bytes that the header has up to its end
---     BeginsWith text front    the front is a prefix of the text
+--     BeginsWith text prefix   the text has this prefix
 use Rattle.std.specs.Prelude.{◌≡◌, ℕ, ◌+◌, ◌<◌, List, [], ◌∷◌, ◌++◌, codes, get_or, length, map, take}
 use Rattle.ptb_answers.specs.declared.form.Marked.{Marked}
 use Rattle.ptb_answers.specs.AnswerText.{spelling}
@@ -29,4 +29,4 @@ AreEnds kept = (k : ℕ) (x : KeptItem) → k < length kept
     → (get_or kept k x).end ≡ length (header_prefix (take (k + 1) (marked_items kept)))
 
 abbrev pub BeginsWith : List ℕ → List ℕ → Type 0
-BeginsWith text front = take (length front) text ≡ front
+BeginsWith text prefix = take (length prefix) text ≡ prefix

@@ -13,17 +13,17 @@ use Rattle.ptb_text.specs.Device.{Gathers, TakesSome}
 
 -- nothing taken, all pending
 pub gathers_none : (a : Option (List ℕ)) (s : List ℕ) → Gathers a a s s
-gathers_none a s = record { front = []; whole = refl; growth = Appends-nil a }
+gathers_none a s = record { prefix = []; whole = refl; growth = Appends-nil a }
 
 -- what was pending, and x after it
 pub gathers_more : (a b c : Option (List ℕ)) (s p x q : List ℕ) → Gathers a b s p → Gathers b c (p ++ x) q
     → Gathers a c (s ++ x) q
 gathers_more a b c s p x q g h = record {
-  front = g.front ++ h.front;
+  prefix = g.prefix ++ h.prefix;
   whole =
-      ap (λ z. z ++ x) g.whole ∙ append_assoc g.front p x ∙ ap (λ z. g.front ++ z) h.whole
-      ∙ sym (append_assoc g.front h.front q);
-  growth = Appends-trans a b c g.front h.front g.growth h.growth;
+      ap (λ z. z ++ x) g.whole ∙ append_assoc g.prefix p x ∙ ap (λ z. g.prefix ++ z) h.whole
+      ∙ sym (append_assoc g.prefix h.prefix q);
+  growth = Appends-trans a b c g.prefix h.prefix g.growth h.growth;
 }
 
 pub gathers_same : {a b : Option (List ℕ)} {s t p : List ℕ} → s ≡ t → Gathers a b s p → Gathers a b t p
@@ -33,13 +33,13 @@ gathers_same {a} {b} {s} {t} {p} e g = subst (λ z. Gathers a b z p) e g
 
 gathers_some : (a b : Option (List ℕ)) (s p : List ℕ) → Gathers a b s p → TakesSome a b s
 gathers_some a b s p g =
-    let l : length s ≡ length g.front + length p = ap length g.whole ∙ length-append g.front p in
-    let t : take (length g.front) s ≡ g.front = ap (take (length g.front)) g.whole
-    ∙ take-append-le (length g.front) g.front p (omega arith) ∙ take-length g.front in
-    (length g.front, omega arith, subst (Appends a b) (sym t) g.growth)
+    let l : length s ≡ length g.prefix + length p = ap length g.whole ∙ length-append g.prefix p in
+    let t : take (length g.prefix) s ≡ g.prefix = ap (take (length g.prefix)) g.whole
+    ∙ take-append-le (length g.prefix) g.prefix p (omega arith) ∙ take-length g.prefix in
+    (length g.prefix, omega arith, subst (Appends a b) (sym t) g.growth)
 
 some_gathers : (a b : Option (List ℕ)) (s : List ℕ) → (t : TakesSome a b s) → Gathers a b s (drop t.0 s)
-some_gathers a b s t = record { front = take t.0 s; whole = sym (take-append-drop t.0 s); growth = t.2 }
+some_gathers a b s t = record { prefix = take t.0 s; whole = sym (take-append-drop t.0 s); growth = t.2 }
 
 -- a prefix of the first bytes is a prefix of all
 pub some_more : (a b : Option (List ℕ)) (s x : List ℕ) → TakesSome a b s → TakesSome a b (s ++ x)
@@ -56,7 +56,7 @@ some_after a b c s p x g t =
 
 -- all that was pending was taken
 pub all_after : (a b c : Option (List ℕ)) (s p : List ℕ) → Gathers a b s p → Appends b c p → Appends a c s
-all_after a b c s p g t = subst (Appends a c) (sym g.whole) (Appends-trans a b c g.front p g.growth t)
+all_after a b c s p g t = subst (Appends a c) (sym g.whole) (Appends-trans a b c g.prefix p g.growth t)
 
 -- a prefix of what was pending was taken
 pub some_rest : (a b c : Option (List ℕ)) (s p : List ℕ) → Gathers a b s p → TakesSome b c p → TakesSome a c s
@@ -65,7 +65,7 @@ some_rest a b c s p g t =
     rw append-nil at (some_after a b c s p [] g q)
 
 pub gathers_written : (a b : Option (List ℕ)) (s : List ℕ) → Appends a b s → Gathers a b s []
-gathers_written a b s t = record { front = s; whole = sym (append-nil s); growth = t }
+gathers_written a b s t = record { prefix = s; whole = sym (append-nil s); growth = t }
 
 -- all that was pending and x after it was taken
 pub all_more : (a b c : Option (List ℕ)) (s p x : List ℕ) → Gathers a b s p → Appends b c (p ++ x)

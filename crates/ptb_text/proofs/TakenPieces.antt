@@ -16,39 +16,39 @@ pub gathers_rest : {a b : Option (List ℕ)} {bytes rest : List ℕ} (c : Option
 gathers_rest {a} {b} {bytes} {rest} c n m left before now =
     let all : take m (drop n rest) ≡ drop n rest = take_all m (drop n rest) (omega (arith, length-drop n rest)) in
     record {
-      front = before.front ++ take n rest;
+      prefix = before.prefix ++ take n rest;
       whole =
           before.whole
-          ∙ ap (λ r. before.front ++ r) (sym (take-append-drop n rest) ∙ ap (λ r. take n rest ++ r) (sym all))
-          ∙ sym (append_assoc before.front (take n rest) (take m (drop n rest)));
-      growth = Appends-trans a b c before.front (take n rest) before.growth now;
+          ∙ ap (λ r. before.prefix ++ r) (sym (take-append-drop n rest) ∙ ap (λ r. take n rest ++ r) (sym all))
+          ∙ sym (append_assoc before.prefix (take n rest) (take m (drop n rest)));
+      growth = Appends-trans a b c before.prefix (take n rest) before.growth now;
     }
 
 -- and in the end all
 pub gathers_all : {a b : Option (List ℕ)} {bytes : List ℕ} (rest : List ℕ) → Gathers a b bytes rest → length rest ≡ 0
     → Appends a b bytes
-gathers_all {a} {b} [] before e = subst (Appends a b) (sym (before.whole ∙ append-nil before.front)) before.growth
+gathers_all {a} {b} [] before e = subst (Appends a b) (sym (before.whole ∙ append-nil before.prefix)) before.growth
 gathers_all (x ∷ rest) before e = absurd (omega arith)
 
 -- where the next piece fails, a prefix of all the bytes was taken
 pub gathers_fault : {a b : Option (List ℕ)} {bytes rest : List ℕ} (c : Option (List ℕ)) → Gathers a b bytes rest
     → TakesSome b c rest → TakesSome a c bytes
 gathers_fault {a} {b} {bytes} {rest} c before now =
-    let front = before.front in
+    let prefix = before.prefix in
     let m = now.0 in
-    let same : take (length front + m) bytes ≡ front ++ take m rest =
-    ap (take (length front + m)) before.whole ∙ take-append-add front rest m in
-    let size : length bytes ≡ length front + length rest = ap length before.whole ∙ length-append front rest in (
-      length front + m,
+    let same : take (length prefix + m) bytes ≡ prefix ++ take m rest =
+    ap (take (length prefix + m)) before.whole ∙ take-append-add prefix rest m in
+    let size : length bytes ≡ length prefix + length rest = ap length before.whole ∙ length-append prefix rest in (
+      length prefix + m,
       omega (arith, now.1),
       subst (Appends a c) (sym same)
-          (Appends-trans a b c front (take m rest) before.growth now.2),
+          (Appends-trans a b c prefix (take m rest) before.growth now.2),
     )
 
 -- ---- what is taken without failing
 
 rest_within : {a b : Option (List ℕ)} {bytes rest : List ℕ} → Gathers a b bytes rest → length rest ≤ length bytes
-rest_within {a} {b} {bytes} {rest} before = omega (arith, ap length before.whole, length-append before.front rest)
+rest_within {a} {b} {bytes} {rest} before = omega (arith, ap length before.whole, length-append before.prefix rest)
 
 -- a writer that took all bytes but the rest
 module _ (first now : ℕ → Type 0) {a b : Option (List ℕ)} {bytes rest : List ℕ} (before : Gathers a b bytes rest)
@@ -78,14 +78,14 @@ module _ (first now : ℕ → Type 0) {a b : Option (List ℕ)} {bytes rest : Li
 pub piece_taken : {a b : Option (List ℕ)} {bytes rest : List ℕ} (c : Option (List ℕ)) (piece others : List ℕ)
     → rest ≡ piece ++ others → Gathers a b bytes rest → Appends b c piece → Gathers a c bytes others
 piece_taken {a} {b} {bytes} {rest} c piece others parts before now = record {
-  front = before.front ++ piece;
-  whole = before.whole ∙ ap (λ r. before.front ++ r) parts ∙ sym (append_assoc before.front piece others);
-  growth = Appends-trans a b c before.front piece before.growth now;
+  prefix = before.prefix ++ piece;
+  whole = before.whole ∙ ap (λ r. before.prefix ++ r) parts ∙ sym (append_assoc before.prefix piece others);
+  growth = Appends-trans a b c before.prefix piece before.growth now;
 }
 
 pub piece_fault : {a b : Option (List ℕ)} {bytes rest : List ℕ} (c : Option (List ℕ)) (piece others : List ℕ)
     → rest ≡ piece ++ others → Gathers a b bytes rest → TakesSome b c piece → TakesSome a c bytes
 piece_fault {a} {b} {bytes} {rest} c piece others parts before now =
     let size : length rest ≡ length piece + length others = ap length parts ∙ length-append piece others in
-    let front : take now.0 rest ≡ take now.0 piece = ap (take now.0) parts ∙ take-append-le now.0 piece others now.1 in
-    gathers_fault c before (now.0, omega (arith, now.1), subst (Appends b c) (sym front) now.2)
+    let same : take now.0 rest ≡ take now.0 piece = ap (take now.0) parts ∙ take-append-le now.0 piece others now.1 in
+    gathers_fault c before (now.0, omega (arith, now.1), subst (Appends b c) (sym same) now.2)

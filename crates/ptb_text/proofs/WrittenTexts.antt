@@ -53,7 +53,7 @@ gathered_same out text other pending r e w = subst (λ (t : List ℕ). GathersTe
 pub gathered_alone : {T : Type 0} (a : Option (List ℕ)) (i : ℕ) (s q : List ℕ) (u : T) → q ≡ s
     → GathersText (record { before = a; after = a; failed = i; fails = i }) s q (Ok u)
 gathered_alone a i s q u is = record {
-  ok = record { front = []; whole = sym is; growth = Appends-nil a };
+  ok = record { prefix = []; whole = sym is; growth = Appends-nil a };
   fault = tt;
   failed = tt;
   kind = tt;
@@ -64,7 +64,7 @@ gathered_alone a i s q u is = record {
 pub gathered_then : {T : Type 0} (a b : Option (List ℕ)) (i j : ℕ) (s x q : List ℕ) (u : T) → j ≡ i → q ≡ x
     → Appends a b s → GathersText (record { before = a; after = b; failed = i; fails = j }) (s ++ x) q (Ok u)
 gathered_then a b i j s x q u same is first = record {
-  ok = record { front = s; whole = ap (λ (z : List ℕ). s ++ z) (sym is); growth = first };
+  ok = record { prefix = s; whole = ap (λ (z : List ℕ). s ++ z) (sym is); growth = first };
   fault = tt;
   failed = tt;
   kind = tt;

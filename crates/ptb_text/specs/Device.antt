@@ -39,9 +39,9 @@ TakesSome old new bytes = (n : ℕ) × (n ≤ length bytes) × Appends old new (
 
 -- a prefix of these bytes was taken, and the others wait to be written
 pub record Gathers (old new : Option (List ℕ)) (bytes pending : List ℕ) : Type 0 where
-  pub front : List ℕ
-  pub whole : bytes ≡ front ++ pending
-  pub growth : Appends old new front
+  pub prefix : List ℕ
+  pub whole : bytes ≡ prefix ++ pending
+  pub growth : Appends old new prefix
 
 -- A writer that takes k bytes without failing is given no more than these: it takes some, unless there are none,
 -- and then takes the others of the k without failing.

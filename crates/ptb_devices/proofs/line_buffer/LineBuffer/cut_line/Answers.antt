@@ -16,7 +16,7 @@ returns-in-Some c =
     let size : count ≤ s.to - s.from = omega (arith, c.in-Some.ensures.size.1, ap length bytes, long) in
     let same : c.self.inside.cutter ≡ c.args.self.now.piece = ap (λ i. i.piece) c.self.view_is in
     record {
-      front = take count waiting;
+      prefix = take count waiting;
       whole = sym (ap (λ i. i.waiting) c.self.view_is) ∙ slice_range-front s.bytes s.from s.to count
           (omega (arith, size, c.self.invariant.ordered));
       some = omega (arith, length-take count waiting, long, size, c.in-Some.ensures.size.0);

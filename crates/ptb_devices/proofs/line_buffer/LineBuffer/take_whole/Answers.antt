@@ -30,7 +30,7 @@ returns c =
         refl,
         λ _. tt,
         record {
-          front = take (count + 1) waiting;
+          prefix = take (count + 1) waiting;
           whole = sym (ap (λ i. i.waiting) c.self.view_is)
               ∙ slice_range-front s.bytes s.from s.to (count + 1) (omega (arith, size, c.self.invariant.ordered))
               ∙ ap (λ n. take (count + 1) waiting ++ slice_range s.bytes n s.to) past;
