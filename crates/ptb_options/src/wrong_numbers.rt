@@ -60,11 +60,11 @@ pub fn wrong_number<'a, S: AsStr>(arguments: &'a [S]) -> Option<WrongNumber<'a>>
     ensures none { result ≡ None → HasNoWrongNumber (map S.text arguments.entry.now) }
 {
     for i in 1..arguments.len() {
-        let argument = text_at(arguments, i)?;
+        let argument = argument_at(arguments, i)?;
         if argument == "--" {
             return None;
         }
-        let wrong = wrong_value(argument, text_at(arguments, i + 1));
+        let wrong = wrong_value(argument, argument_at(arguments, i + 1));
         if wrong.is_some() {
             return wrong;
         }
@@ -73,7 +73,7 @@ pub fn wrong_number<'a, S: AsStr>(arguments: &'a [S]) -> Option<WrongNumber<'a>>
 }
 
 // The argument at an index, if there is one.
-fn text_at<'a, S: AsStr>(arguments: &'a [S], i: usize) -> Option<&'a str>
+fn argument_at<'a, S: AsStr>(arguments: &'a [S], i: usize) -> Option<&'a str>
     ensures { option_copied result ≡ slice_get (map S.text arguments.entry.now) i }
 {
     match arguments.get(i) {

@@ -9,9 +9,9 @@ use Rattle.ptb_options.proofs.wrong_numbers.wrong_number.Goals as goal
 pub loop-i-preserved : goal.loop-i-preserved
 loop-i-preserved g c =
     passed_more (map g.S.AsStr.text c.args.arguments.now) c.loop-i.i c.in_ok-argument.argument.now
-    (option_copied c.text_at.result) c.eq.result c.text_at.ensures
+    (option_copied c.argument_at.result) c.eq.result c.argument_at.ensures
     (ap option_copied c.in_ok-argument.was) c.eq.ensures c.loop-i.invariant
-    c.if-eq.false (option_copied c.text_at-in-loop-i.result) c.text_at-in-loop-i.ensures
+    c.if-eq.false (option_copied c.argument_at-in-loop-i.result) c.argument_at-in-loop-i.ensures
     (c.wrong_value-wrong.ensures.none
     (none_found c.wrong_value-wrong.result c.is_some.result c.is_some.ensures c.if-is_some.false))
 
@@ -19,17 +19,17 @@ pub returns-then-is_some : goal.returns-then-is_some
 returns-then-is_some g c = record {
   some =
       wrong_here (map g.S.AsStr.text c.args.arguments.now) c.loop-i.i c.in_ok-argument.argument.now
-      (option_copied c.text_at.result) c.eq.result c.text_at.ensures
+      (option_copied c.argument_at.result) c.eq.result c.argument_at.ensures
       (ap option_copied c.in_ok-argument.was) c.eq.ensures c.loop-i.invariant
-      c.if-eq.false c.wrong_value-wrong.result (option_copied c.text_at-in-loop-i.result) c.loop-i.auto.i
-      c.text_at-in-loop-i.ensures c.wrong_value-wrong.ensures.some;
+      c.if-eq.false c.wrong_value-wrong.result (option_copied c.argument_at-in-loop-i.result) c.loop-i.auto.i
+      c.argument_at-in-loop-i.ensures c.wrong_value-wrong.ensures.some;
   none = some_found c.wrong_value-wrong.result c.is_some.result c.is_some.ensures c.if-is_some.true;
 }
 
 pub returns-then-eq-clause-none : goal.returns-then-eq-clause-none
 returns-then-eq-clause-none g c = λ _.
     dashes_here (map g.S.AsStr.text c.args.arguments.now) c.loop-i.i c.in_ok-argument.argument.now
-    (option_copied c.text_at.result) c.eq.result c.text_at.ensures
+    (option_copied c.argument_at.result) c.eq.result c.argument_at.ensures
     (ap option_copied c.in_ok-argument.was) c.eq.ensures c.loop-i.invariant
     c.loop-i.auto.i c.if-eq.true
 
@@ -37,7 +37,7 @@ pub returns-in_err-argument-clause-none : goal.returns-in_err-argument-clause-no
 returns-in_err-argument-clause-none g c = λ _.
     let arguments = map g.S.AsStr.text c.args.arguments.now in
     let all = length-map c.args.arguments.now g.S.AsStr.text in
-    absurd (there_is arguments c.loop-i.i (option_copied c.text_at.result) (omega arith) c.text_at.ensures
+    absurd (there_is arguments c.loop-i.i (option_copied c.argument_at.result) (omega arith) c.argument_at.ensures
     (ap option_copied c.in_err-argument.was))
 
 pub returns-clause-none : goal.returns-clause-none
