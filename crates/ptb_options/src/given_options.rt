@@ -125,15 +125,15 @@ impl<'a> GivenOptions<'a> {
         ensures none { result ≡ None → (x : ListOption) → IsSpelled self.now x }
         ensures some { IfSome result (IsFirstMisspelled self.now) }
     {
-        if let Some(mistake) = mistake_in(self.under, BoundRule::Allowed) {
+        if let Some(mistake) = mistake_if_given(self.under, BoundRule::Allowed) {
             let option = ListOption::Under;
             return Some(MisspelledList { option, mistake });
         }
-        if let Some(mistake) = mistake_in(self.after, BoundRule::Allowed) {
+        if let Some(mistake) = mistake_if_given(self.after, BoundRule::Allowed) {
             let option = ListOption::After;
             return Some(MisspelledList { option, mistake });
         }
-        let mistake = mistake_in(self.answers, BoundRule::Refused)?;
+        let mistake = mistake_if_given(self.answers, BoundRule::Refused)?;
         let option = ListOption::Answers;
         Some(MisspelledList { option, mistake })
     }
@@ -186,7 +186,7 @@ fn bound(number: Option<u16>) -> Option<i16>
 }
 
 // What is wrong with a list, if there is a text of one.
-fn mistake_in(text: Option<&str>, bounds: BoundRule) -> Option<ListMistake<'_>>
+fn mistake_if_given(text: Option<&str>, bounds: BoundRule) -> Option<ListMistake<'_>>
     ensures none { result ≡ None → ForSome (option_copied text.entry) (IsListOf bounds) }
     ensures some { IfSome result (HasMistake bounds (option_copied text.entry)) }
 {
