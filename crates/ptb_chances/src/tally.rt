@@ -35,7 +35,7 @@ impl Model for Tally {
 }
 
 // A total with a chance and a number of runs more, or one that has these alone.
-fn joined(
+fn joined_total(
     alloc: Global,
     old: Option<ResultTotal>,
     chance: &Fraction,
@@ -85,7 +85,7 @@ impl Tally {
         }) self.new) }
     {
         let old = self.totals.remove(&key);
-        let total = joined(alloc, old, chance, runs)?;
+        let total = joined_total(alloc, old, chance, runs)?;
         self.totals.insert(key, total)?;
         Ok(())
     }
