@@ -99,7 +99,7 @@ impl LineBuffer {
     }
 
     /// Whether its reader may have more.
-    pub(crate) fn is_open(&self) -> bool
+    pub(crate) fn may_have_more(&self) -> bool
         ensures { IsTrue result → self.now.end ≡ Open }
     {
         matches!(self.end, InputEnd::Open)

@@ -80,7 +80,7 @@ impl<'a, R: Read> LineSource for ReaderLines<'a, R> {
 
     #[inline(always)]
     fn take_ready(&mut self) -> Option<&[u8]> {
-        if !self.buffer.is_open() {
+        if !self.buffer.may_have_more() {
             return None;
         }
         self.buffer.forget_given();
