@@ -49,7 +49,7 @@ impl Program {
         if line.text.len() > TEXT_LIMIT {
             return Err(LoadFault::TextTooLong);
         }
-        self.store(line.number, line.text)
+        self.store_text(line.number, line.text)
     }
 
     // Deletes the statement of this number, if there is one.
@@ -65,7 +65,7 @@ impl Program {
     }
 
     // Stores a text under a number.
-    fn store(&mut self, number: u16, text: &[u8]) -> Result<(), LoadFault>
+    fn store_text(&mut self, number: u16, text: &[u8]) -> Result<(), LoadFault>
         requires { IsTrue (is_statement (number, text.now)) }
         ensures { Enters (if_room self.old.memory (with_text self.old.lines number text.now))
             self.old self.new result }

@@ -22,8 +22,8 @@ returns-in_err-line c =
 pub returns-then-is_empty-clause-ok : goal.returns-then-is_empty-clause-ok
 returns-then-is_empty-clause-ok c = search rules fits 50 depth 2
 
-pub store-requires : goal.store-requires
-store-requires c =
+pub store_text-requires : goal.store_text-requires
+store_text-requires c =
     let short : length c.in-Some.line.text.now ≤ 255 = search rules in
     let numbered = found_is _ (λ l. IsNumbered c.args.line.now l.number l.text.now) c.in_ok-line.field-0 c.in-Some.line
     c.in_ok-line.ensures c.in-Some.is in
@@ -39,7 +39,7 @@ returns c =
     let told =
     line_stored c.args.line.now c.args.self.now c.in-Some.line.number c.in-Some.line.text.now numbered c.is_empty.result
     c.is_empty.ensures c.if-is_empty.false short
-    c.store.new.self c.store.result c.store.ensures
+    c.store_text.new.self c.store_text.result c.store_text.ensures
     in
     record {
       ok = told.enters.ok;
