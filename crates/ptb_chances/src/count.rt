@@ -118,7 +118,7 @@ impl<'p, 'l> Count<'p, 'l> {
             return;
         }
         if let Ok(billionths) = self.tally.billionths(alloc) {
-            watch.show(self.work.waiting(), billionths);
+            watch.show(self.work.waiting_count(), billionths);
         }
     }
 

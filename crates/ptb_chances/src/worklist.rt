@@ -262,7 +262,7 @@ impl Worklist {
     }
 
     /// How many states wait.
-    pub(crate) fn waiting(&self) -> usize {
+    pub(crate) fn waiting_count(&self) -> usize {
         self.states.len().saturating_add(self.others.len())
     }
 
