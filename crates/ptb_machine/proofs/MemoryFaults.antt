@@ -30,7 +30,7 @@ module _ (refuses : Pause → ℤ → Type 0) (lines : Option (List (List ℕ)))
   device_in_memory fails.Write w =
       let none : w.screen.failures ≡ 0 = w.comes.exchanges.unfailed ∙ before in
       elim w.broken.0 [
-        inl x ↦ absurd (omega (arith, none, after, x))
+        | inl x ↦ absurd (omega (arith, none, after, x))
         | inr x ↦ absurd (omega (arith, none, after, x))
       ]
   device_in_memory fails.Memory w = refl
